@@ -1,0 +1,2 @@
+-- The known dossiers: `Known`.
+pub mod Known

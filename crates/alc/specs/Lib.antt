@@ -1,0 +1,12 @@
+pub mod Lists
+pub mod Rows
+pub mod Ranges
+pub mod Meaning
+pub mod Table
+pub mod Claims
+pub mod Rules
+pub mod Goals
+pub mod Model
+pub mod Dossier
+pub mod Verdict
+pub mod Known

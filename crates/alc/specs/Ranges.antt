@@ -1,0 +1,39 @@
+-- The numbers of a line, each of its own kind, and their ranges.
+-- Assumes nothing.
+use Prim.Native.Nat.{ℕ}
+use mathlib.Core.Bool.{Bool, _&&_}
+use mathlib.Core.List.{List, [], _∷_}
+use lib.Dec.{ltb, leb}
+
+-- what a field is a number of
+pub data Field : Type 0 where
+  role atom name element size concept : ℕ → Field
+
+-- with `entries` lines in the table so far, and a model of `elements` elements. A table line's own number is the count of the lines above it
+abbrev pub inRange : ℕ → ℕ → Field → Bool
+inRange entries elements (role r) = ltb r 16
+inRange entries elements (atom A) = ltb A 64
+inRange entries elements (name a) = ltb a 64
+inRange entries elements (element d) = ltb d elements
+inRange entries elements (size n) = leb 1 n && leb n 32
+inRange entries elements (concept i) = ltb i entries
+
+-- the concept numbers among the fields
+abbrev pub concepts : List Field → List ℕ
+concepts [] = []
+concepts (role r ∷ fs) = concepts fs
+concepts (atom A ∷ fs) = concepts fs
+concepts (name a ∷ fs) = concepts fs
+concepts (element d ∷ fs) = concepts fs
+concepts (size n ∷ fs) = concepts fs
+concepts (concept i ∷ fs) = i ∷ concepts fs
+
+-- the names among the fields
+abbrev pub namesIn : List Field → List ℕ
+namesIn [] = []
+namesIn (role r ∷ fs) = namesIn fs
+namesIn (atom A ∷ fs) = namesIn fs
+namesIn (name a ∷ fs) = a ∷ namesIn fs
+namesIn (element d ∷ fs) = namesIn fs
+namesIn (size n ∷ fs) = namesIn fs
+namesIn (concept i ∷ fs) = namesIn fs
