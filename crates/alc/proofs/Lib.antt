@@ -1,2 +1,3 @@
--- The known dossiers: `Known`.
+-- `Known`: the known dossiers. `ShownLaws`: the code's records and arrays lose nothing.
 pub mod Known
+pub mod ShownLaws

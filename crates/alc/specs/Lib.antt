@@ -10,3 +10,4 @@ pub mod Model
 pub mod Dossier
 pub mod Verdict
 pub mod Known
+pub mod Shown
