@@ -1,0 +1,2 @@
+-- `RecordLaws`: records of claims, and lists of them.
+pub mod RecordLaws

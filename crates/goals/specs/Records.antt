@@ -1,0 +1,99 @@
+-- Lists of claim records: when two are the same, which names one has, and how a rule's plan is shown by records.
+-- Assumes nothing.
+use Prim.Native.Nat.{ℕ, _+_}
+use mathlib.Core.Bool.{Bool, true, false, cond, decide, _&&_, _||_}
+use mathlib.Core.List.{List, [], _∷_, map}
+use mathlib.Core.Path.{_≡_}
+use lib.Dec.{eqb, leb}
+use lib.ListN.{length, getD}
+use Rattle.alc.specs.Lists.{every}
+use Rattle.alc.specs.Rows.{Row, row}
+use Rattle.alc.specs.Table.{Kind, Kind-discrete}
+use Rattle.alc.specs.Claims.{Sided, Goal, has}
+use Rattle.alc.specs.Rules
+use Rattle.alc.specs.Rules.{Step, Plan}
+use Rattle.alc.specs.Goals.{areNew, premises}
+use Rattle.alc.specs.Shown.{recordOf, kindAt}
+use Rattle.alc.specs.declared.Claim.{Claim as Record}
+use Rattle.goals.specs.declared.Plan.{Plan as Planned}
+
+-- a record's numbers
+abbrev pub numbers : Record → List ℕ
+numbers c = c .kind ∷ c .side ∷ c .role .0 ∷ c .a .0 ∷ c .b .0 ∷ c .i .0 ∷ c .j .0 ∷ []
+
+-- the two lists are equal, number for number
+abbrev pub equal : List ℕ → List ℕ → Bool
+equal [] [] = true
+equal [] (y ∷ ys) = false
+equal (x ∷ xs) [] = false
+equal (x ∷ xs) (y ∷ ys) = eqb x y && equal xs ys
+
+-- the two records are equal
+unfoldable pub sameRecord : Record → Record → Bool
+sameRecord c d = equal (numbers c) (numbers d)
+
+-- the record is of an `is` or a `link` with the name
+unfoldable pub hasName : ℕ → Record → Bool
+hasName a c = (eqb (c .kind) 1 && eqb a (c .a .0)) || (eqb (c .kind) 3 && (eqb a (c .a .0) || eqb a (c .b .0)))
+
+-- the step of a rule's number with its fields, in the order of the words
+unfoldable pub stepOf : ℕ → ℕ → ℕ → ℕ → Step
+stepOf rule x y z =
+    getD
+    (Rules.id x y
+    ∷ Rules.id-sub x y
+    ∷ Rules.id-link x y z
+    ∷ Rules.bot-l x y
+    ∷ Rules.top-r x y
+    ∷ Rules.top-l x y
+    ∷ Rules.bot-r x y
+    ∷ Rules.not-l x y
+    ∷ Rules.not-r x y
+    ∷ Rules.and-l x y
+    ∷ Rules.and-r x y
+    ∷ Rules.or-l x y
+    ∷ Rules.or-r x y
+    ∷ Rules.sub-l x y z
+    ∷ Rules.sub-r x y z
+    ∷ Rules.some-l x y z
+    ∷ Rules.some-r x y z
+    ∷ Rules.all-l x y z
+    ∷ Rules.all-r x y z
+    ∷ [])
+    rule
+    (Rules.id x y)
+
+-- the entry is of the kind asked; 8 asks none
+abbrev pub asks : ℕ → Kind → Bool
+asks asked k = cond (eqb asked 8) true (decide (Kind-discrete k (kindAt asked)))
+
+-- the first n of two
+abbrev pub upTo {ℓ} : {A : Type ℓ} → ℕ → A → A → List A
+upTo n c d = getD ([] ∷ (c ∷ []) ∷ (c ∷ d ∷ []) ∷ []) n []
+
+-- what comes last in each premise: 0 closes the goal, 1 and 2 add so many claims, 3 leaves two premises with a claim each
+abbrev pub added : ℕ → Record → Record → List (List Record)
+added leaves c d = getD ([] ∷ ((c ∷ []) ∷ []) ∷ ((c ∷ d ∷ []) ∷ []) ∷ ((c ∷ []) ∷ (d ∷ []) ∷ []) ∷ []) leaves []
+
+-- the new name, where one is asked
+abbrev pub newsBy : Bool → ℕ → List ℕ
+newsBy true b = b ∷ []
+newsBy false b = []
+
+-- the code's plan p, at an entry of kind k, is the plan q
+pub record Shows (k : Kind) (p : Planned) (q : Plan) : Type 0 where
+  pub asked : asks (p .kind) k ≡ q .asks
+  pub needed : upTo (p .needs) (p .need) (p .also) ≡ map recordOf (q .needs)
+  pub dropped : p .drops ≡ q .drops
+  pub news : newsBy (p .fresh) (p .name .0) ≡ q .news
+  pub left : added (p .leaves) (p .first) (p .second) ≡ map (map recordOf) (q .premises)
+
+-- the rows of a step that speak of its rule, at the goal g with w goals waiting
+unfoldable pub ruleRows : Plan → Goal → ℕ → List Row
+ruleRows p g w =
+    row 6 (p .asks)
+    ∷ row 7 (every (has g) (p .needs))
+    ∷ row 8 (areNew (p .news) g)
+    ∷ row 10 (every (λ h. leb (length h) 64) (premises p g))
+    ∷ row 11 (leb (length (premises p g) + w) 17)
+    ∷ []
