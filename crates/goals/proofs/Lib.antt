@@ -1,2 +1,3 @@
 -- `RecordLaws`: records of claims, and lists of them.
 pub mod RecordLaws
+pub mod Plans

@@ -15,6 +15,7 @@ use Rattle.alc.specs.Rules.{Step, Plan}
 use Rattle.alc.specs.Goals.{areNew, premises}
 use Rattle.alc.specs.Shown.{recordOf, kindAt}
 use Rattle.alc.specs.declared.Claim.{Claim as Record}
+use Rattle.alc.specs.declared.Name.{Name}
 use Rattle.goals.specs.declared.Plan.{Plan as Planned}
 
 -- a record's numbers
@@ -87,6 +88,23 @@ pub record Shows (k : Kind) (p : Planned) (q : Plan) : Type 0 where
   pub dropped : p .drops ≡ q .drops
   pub news : newsBy (p .fresh) (p .name .0) ≡ q .news
   pub left : added (p .leaves) (p .first) (p .second) ≡ map (map recordOf) (q .premises)
+
+-- the four forms of a plan: a goal closes; one claim comes; a claim goes and its parts come; a claim goes and two come, with a new name
+abbrev pub closing : ℕ → ℕ → Record → Record → Planned
+closing k n need also =
+    record { kind = k; needs = n; need = need; also = also; drops = false; fresh = false; name = record { 0 = 0 }; leaves = 0; first = need; second = need }
+
+abbrev pub adding : ℕ → ℕ → Record → Record → Record → Planned
+adding k n need also new =
+    record { kind = k; needs = n; need = need; also = also; drops = false; fresh = false; name = record { 0 = 0 }; leaves = 1; first = new; second = new }
+
+abbrev pub parting : ℕ → Record → ℕ → Record → Record → Planned
+parting k need l first second =
+    record { kind = k; needs = 1; need = need; also = need; drops = true; fresh = false; name = record { 0 = 0 }; leaves = l; first = first; second = second }
+
+abbrev pub opening : ℕ → Record → Name → Record → Record → Planned
+opening k need b first second =
+    record { kind = k; needs = 1; need = need; also = need; drops = true; fresh = true; name = b; leaves = 2; first = first; second = second }
 
 -- the rows of a step that speak of its rule, at the goal g with w goals waiting
 unfoldable pub ruleRows : Plan → Goal → ℕ → List Row

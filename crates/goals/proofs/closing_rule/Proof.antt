@@ -1,0 +1,84 @@
+-- `goals::closing_rule` meets its contract, an arm a rule: the claims made are those of the table's row. Assumes nothing.
+use mathlib.Core.Path.{refl}
+use native.Mathlib.Omega.{arith}
+use borrow.Author.Needs.{needs}
+use Rattle.alc.specs.Rules.{plan}
+use Rattle.alc.proofs.Arms.{last-arm}
+use Rattle.goals.specs.Records.{stepOf}
+use Rattle.goals.proofs.Plans.{by-rule, as-closing}
+use Rattle.goals.proofs.closing_rule.Statement.{statement}
+use Rattle.goals.proofs.closing_rule.Tie as tie
+
+is-requires : tie.Need-is-requires
+is-requires c κs = search needs
+
+is-requires-2 : tie.Need-is-requires-2
+is-requires-2 c κs = search needs
+
+closes-requires : tie.Need-closes-requires
+closes-requires c κs = search needs
+
+sub-requires : tie.Need-sub-requires
+sub-requires c κs = search needs
+
+sub-requires-2 : tie.Need-sub-requires-2
+sub-requires-2 c κs = search needs
+
+closes-requires-2 : tie.Need-closes-requires-2
+closes-requires-2 c κs = search needs
+
+link-requires : tie.Need-link-requires
+link-requires c κs = search needs
+
+link-requires-2 : tie.Need-link-requires-2
+link-requires-2 c κs = search needs
+
+closes-requires-3 : tie.Need-closes-requires-3
+closes-requires-3 c κs = search needs
+
+closes-requires-4 : tie.Need-closes-requires-4
+closes-requires-4 c κs = search needs
+
+closes-requires-5 : tie.Need-closes-requires-5
+closes-requires-5 c κs = search needs
+
+returns : tie.Need-returns
+unfolding plan stepOf
+returns c T = by-rule T _ _ _ _ 0 (c .before .match .keys1) _ _ (as-closing _ _ _ (c .closes .ensures) (c .before .before .before .is .ensures) (c .before .before .is2 .ensures) (record { asked = refl; needed = refl; dropped = refl; news = refl; left = refl }))
+
+returns-2 : tie.Need-returns-2
+unfolding plan stepOf
+returns-2 c T = by-rule T _ _ _ _ 1 (c .before .before .before .match .keys2) _ _ (as-closing _ _ _ (c .closes2 .ensures) (c .before .before .sub .ensures) (c .before .sub2 .ensures) (record { asked = refl; needed = refl; dropped = refl; news = refl; left = refl }))
+
+returns-3 : tie.Need-returns-3
+unfolding plan stepOf
+returns-3 c T = by-rule T _ _ _ _ 2 (c .before .before .before .match .keys3) _ _ (as-closing _ _ _ (c .closes3 .ensures) (c .before .before .link .ensures) (c .before .link2 .ensures) (record { asked = refl; needed = refl; dropped = refl; news = refl; left = refl }))
+
+returns-4 : tie.Need-returns-4
+unfolding plan stepOf
+returns-4 c T = by-rule T _ _ _ _ 3 (c .before .match .keys4) _ _ (as-closing _ _ _ (c .closes4 .ensures) (c .before .before .before .is .ensures) (c .before .before .before .is .ensures) (record { asked = refl; needed = refl; dropped = refl; news = refl; left = refl }))
+
+returns-5 : tie.Need-returns-5
+unfolding plan stepOf
+returns-5 c T = by-rule T _ _ _ _ 4 (last-arm 0 4 (c .before .before .before .before .args .s .rule) (c .before .match .rest) (omega arith) (omega arith)) _ _ (as-closing _ _ _ (c .closes5 .ensures) (c .before .before .is2 .ensures) (c .before .before .is2 .ensures) (record { asked = refl; needed = refl; dropped = refl; news = refl; left = refl }))
+
+pub closing-rule-spec : {M : Type 1} → statement M
+closing-rule-spec =
+    tie.close
+    (tie.spec
+    is-requires
+    is-requires-2
+    closes-requires
+    sub-requires
+    sub-requires-2
+    closes-requires-2
+    link-requires
+    link-requires-2
+    closes-requires-3
+    closes-requires-4
+    closes-requires-5
+    returns
+    returns-2
+    returns-3
+    returns-4
+    returns-5)
