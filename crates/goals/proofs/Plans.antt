@@ -9,25 +9,25 @@ use Rattle.alc.specs.Shown.{recordBy}
 use Rattle.alc.specs.declared.Claim.{Claim as Record}
 use Rattle.alc.specs.declared.Name.{Name}
 use Rattle.goals.specs.declared.Plan.{Plan as Planned}
-use Rattle.goals.specs.Records.{stepOf, closing, adding, parting, opening, Shows}
+use Rattle.goals.specs.Records.{stepOf, closing, adding, parting, opening, Plans}
 
 -- by the rule's number
 module _ (T : Table) (x y z rule n : ℕ) (e : rule ≡ n) where
-  pub by-rule : (k : Kind) (p : Planned) → Shows k p (plan T (stepOf n x y z)) → Shows k p (plan T (stepOf rule x y z))
+  pub by-rule : (k : Kind) (p : Planned) → Plans k p (plan T (stepOf n x y z)) → Plans k p (plan T (stepOf rule x y z))
   by-rule k p h = rw e h
 
 -- by what the code's four forms are made of
 module _ (κ : Kind) (q : Plan) (p : Planned) where
-  pub as-closing : {k n : ℕ} {a b a′ b′ : Record} → p ≡ closing k n a b → a ≡ a′ → b ≡ b′ → Shows κ (closing k n a′ b′) q → Shows κ p q
+  pub as-closing : {k n : ℕ} {a b a′ b′ : Record} → p ≡ closing k n a b → a ≡ a′ → b ≡ b′ → Plans κ (closing k n a′ b′) q → Plans κ p q
   as-closing e f g h = rw (e, f, g) h
 
-  pub as-adding : {k n : ℕ} {a b c a′ b′ c′ : Record} → p ≡ adding k n a b c → a ≡ a′ → b ≡ b′ → c ≡ c′ → Shows κ (adding k n a′ b′ c′) q → Shows κ p q
+  pub as-adding : {k n : ℕ} {a b c a′ b′ c′ : Record} → p ≡ adding k n a b c → a ≡ a′ → b ≡ b′ → c ≡ c′ → Plans κ (adding k n a′ b′ c′) q → Plans κ p q
   as-adding e f g i h = rw (e, f, g, i) h
 
-  pub as-parting : {k l : ℕ} {a b c a′ b′ c′ : Record} → p ≡ parting k a l b c → a ≡ a′ → b ≡ b′ → c ≡ c′ → Shows κ (parting k a′ l b′ c′) q → Shows κ p q
+  pub as-parting : {k l : ℕ} {a b c a′ b′ c′ : Record} → p ≡ parting k a l b c → a ≡ a′ → b ≡ b′ → c ≡ c′ → Plans κ (parting k a′ l b′ c′) q → Plans κ p q
   as-parting e f g i h = rw (e, f, g, i) h
 
-  pub as-opening : {k : ℕ} {n : Name} {a b c a′ b′ c′ : Record} → p ≡ opening k a n b c → a ≡ a′ → b ≡ b′ → c ≡ c′ → Shows κ (opening k a′ n b′ c′) q → Shows κ p q
+  pub as-opening : {k : ℕ} {n : Name} {a b c a′ b′ c′ : Record} → p ≡ opening k a n b c → a ≡ a′ → b ≡ b′ → c ≡ c′ → Plans κ (opening k a′ n b′ c′) q → Plans κ p q
   as-opening e f g i h = rw (e, f, g, i) h
 
 -- a claim made of the entry's numbers is made of the table's

@@ -2,27 +2,29 @@
 -- same for names, for what is dropped, and for one loop over a goal. Assumes nothing.
 use Prim.Native.Nat.{ℕ, zero, suc, _+_, _-_, _≤_, _<_}
 use native.Mathlib.Omega.{arith}
-use native.Mathlib.Nat.{le-refl}
+use native.Mathlib.Nat.{le-refl, not-suc-le-zero}
 use native.Mathlib.Numerals.{add-one}
 use native.Mathlib.Decide.{ℕ-discrete, decLt}
 use mathlib.Core.Bool.{Bool, true, false, not, cond, _&&_, _||_, decide, decide-iff, true≢false, false≢true}
 use mathlib.Core.List.{List, [], _∷_, _++_, map}
 use mathlib.Core.Path.{_≡_, refl, sym, ap, _∙_}
-use lib.Dec.{eqb}
+use lib.Dec.{eqb, ltb}
 use lib.ListN.{length, getD, take, drop, set, drop-of-length-le, length-map, length-append, length-drop, length-set, List·getD-append}
 use mir.Val.{Val}
 use denote.Laws.{Is}
 use denote.Struct.Declared.{row}
 use lib.Seq.{drop-cons, getD-take, getD-drop, getD-append-add, getD-set-same, getD-set-other, length-take-le, ext-getD}
-use borrow.Author.Tests.{eqb-true, eq-eqb, ne-eqb}
+use borrow.Author.Tests.{eqb-true, eq-eqb, ne-eqb, lt-ltb, ltb-true}
 use Rattle.alc.specs.Lists.{any, every, firstAt, elem}
 use Rattle.alc.specs.Claims.{Claim, is, sub, link, Claim-discrete, Sided, left, right, Sided-discrete, Goal, same, has, without, names, claim}
-use Rattle.alc.specs.Shown.{recordOf, sidedOf, records, blank}
+use Rattle.alc.specs.Meaning.{everyBelow}
+use Rattle.alc.specs.Table.{Kind, Kind-discrete}
+use Rattle.alc.specs.Shown.{recordOf, sidedOf, records, blank, kindAt}
 use Rattle.alc.proofs.ShownLaws.{record-once}
 use Rattle.alc.specs.declared.Claim.{Claim as Record}
 use Rattle.alc.specs.declared.Goal.{Goal as Records}
 use Rattle.alc.proofs.Goal.{the-type}
-use Rattle.goals.specs.Records.{numbers, equal, sameRecord, hasName}
+use Rattle.goals.specs.Records.{numbers, equal, sameRecord, hasName, lacking, keeping, asks, upTo, newsBy}
 
 pub and-left : (a b : Bool) → (a && b) ≡ true → a ≡ true
 and-left true b h = refl
@@ -198,3 +200,104 @@ module _ {A : Type 0} (d : A) (l : List A) (at : ℕ) where
 
     pub moving-done : (n : ℕ) → at < n → n ≤ length l → n ≤ i + 1 → take (n - 1) out ≡ take at (take n l) ++ drop (at + 1) (take n l)
     moving-done n h few done = moved-up d l out n at h few (m .long) (m .before) (λ k g (b : k < n - 1). m .behind k g (omega arith))
+
+ltb-suc : (a b : ℕ) → ltb a b ≡ ltb (suc a) (suc b)
+ltb-suc a b =
+    bool-by (ltb a b) (ltb (suc a) (suc b)) (λ h. lt-ltb (suc a) (suc b) (omega (arith, ltb-true a b h)))
+    (λ h. lt-ltb a b (omega (arith, ltb-true (suc a) (suc b) h)))
+
+-- some element passes exactly if the first that does is one of them
+pub any-first : {A : Type 0} (p : A → Bool) (l : List A) → any p l ≡ ltb (firstAt p l) (length l)
+any-first p [] = refl
+any-first p (x ∷ l) = go (p x) (any-first p l)
+  where
+    go : (b : Bool) → any p l ≡ ltb (firstAt p l) (length l) → (b || any p l) ≡ ltb (cond b 0 (suc (firstAt p l))) (suc (length l))
+    go true e = sym (lt-ltb 0 (suc (length l)) (omega arith))
+    go false e = e ∙ ltb-suc (firstAt p l) (length l)
+
+-- without the first copy: all but the element where it is
+module _ (c : Record) where
+  pub lacking-at : (l : List Record) → firstAt (sameRecord c) l < length l
+      → lacking c l ≡ take (firstAt (sameRecord c) l) l ++ drop (firstAt (sameRecord c) l + 1) l
+  unfolding lacking
+  lacking-at [] h = absurd (not-suc-le-zero h)
+  lacking-at (d ∷ l) h = go (sameRecord c d) h (λ g. lacking-at l g)
+    where
+      go : (b : Bool) → cond b 0 (suc (firstAt (sameRecord c) l)) < suc (length l)
+          → (firstAt (sameRecord c) l < length l → lacking c l ≡ take (firstAt (sameRecord c) l) l ++ drop (firstAt (sameRecord c) l + 1) l)
+          → cond b l (d ∷ lacking c l)
+          ≡ take (cond b 0 (suc (firstAt (sameRecord c) l))) (d ∷ l) ++ drop (cond b 0 (suc (firstAt (sameRecord c) l)) + 1) (d ∷ l)
+      go true g e = refl
+      go false g e = rw (e (omega arith), add-one (suc (firstAt (sameRecord c) l)), add-one (firstAt (sameRecord c) l))
+
+  pub lacking-none : (l : List Record) → length l ≤ firstAt (sameRecord c) l → l ≡ lacking c l
+  unfolding lacking
+  lacking-none [] h = refl
+  lacking-none (d ∷ l) h = go (sameRecord c d) h (λ g. lacking-none l g)
+    where
+      go : (b : Bool) → suc (length l) ≤ cond b 0 (suc (firstAt (sameRecord c) l)) → (length l ≤ firstAt (sameRecord c) l → l ≡ lacking c l)
+          → d ∷ l ≡ cond b l (d ∷ lacking c l)
+      go true g e = absurd (not-suc-le-zero g)
+      go false g e = ap (λ (r : List Record). d ∷ r) (e (omega arith))
+
+-- none, one or both of two records
+module _ (f : Record → Bool) (c d : Record) where
+  pub every-no : (n : ℕ) → (n ≡ 0 → ⊥) → f c ≡ false → false ≡ every f (upTo n c d)
+  every-no zero h e = absurd (h refl)
+  every-no (suc zero) h e = rw e
+  every-no (suc (suc n)) h e = rw e
+
+  pub every-one : (n : ℕ) → n ≡ 1 → f c ≡ true → true ≡ every f (upTo n c d)
+  every-one n h e = rw (h, e)
+
+  pub every-two : (n : ℕ) → (n ≡ 0 → ⊥) → (n ≡ 1 → ⊥) → f c ≡ true → f d ≡ every f (upTo n c d)
+  every-two zero h g e = absurd (h refl)
+  every-two (suc zero) h g e = absurd (g refl)
+  every-two (suc (suc n)) h g e = rw e (and-end (f d))
+
+pub news-asked : (f : ℕ → Bool) (b : Bool) (a : ℕ) → b ≡ true → f a ≡ every f (newsBy b a)
+news-asked f b a h = rw h (and-end (f a))
+
+pub keep-all : (l : List Record) (b : Bool) (u : List Record) → b ≡ false → l ≡ keeping b u l
+keep-all l b u h = rw h
+
+module _ (c d : Record) (l : List Record) where
+  pub keep-none : (b : Bool) (n : ℕ) → n ≡ 0 → l ≡ keeping b (upTo n c d) l
+  keep-none true n h = rw h
+  keep-none false n h = refl
+
+  pub keep-less : (b : Bool) (n : ℕ) → (n ≡ 0 → ⊥) → b ≡ true → lacking c l ≡ keeping b (upTo n c d) l
+  keep-less b zero h e = absurd (h refl)
+  keep-less b (suc zero) h e = rw e
+  keep-less b (suc (suc n)) h e = rw e
+
+-- a kind asked is the entry's exactly if their numbers are equal: a test of all pairs of numbers
+agree : ℕ → ℕ → Bool
+unfolding decide
+agree a k = cond (eqb a k) (decide (Kind-discrete (kindAt k) (kindAt a))) (not (decide (Kind-discrete (kindAt k) (kindAt a))))
+
+agree-all : everyBelow 8 (λ a. everyBelow 8 (λ k. agree a k)) ≡ true
+unfolding agree decide
+agree-all = refl
+
+below-at : (p : ℕ → Bool) (n : ℕ) → everyBelow n p ≡ true → (i : ℕ) → i < n → p i ≡ true
+below-at p zero h i l = absurd (not-suc-le-zero l)
+below-at p (suc n) h i l = go (λ g. below-at p n (and-right (p n) (everyBelow n p) h) i g) (ℕ-discrete i n)
+  where
+    go : (i < n → p i ≡ true) → Dec (i ≡ n) → p i ≡ true
+    go e (yes g) = rw g (and-left (p n) (everyBelow n p) h)
+    go e (no g) = e (omega arith)
+
+cond-same : (b c : Bool) → cond b c (not c) ≡ true → b ≡ c
+cond-same true c h = sym h
+cond-same false true h = h
+cond-same false false h = refl
+
+pub kind-asked : (a k : ℕ) → a < 8 → k < 8 → eqb a k ≡ asks a (kindAt k)
+unfolding agree
+kind-asked a k h l =
+    rw (ne-eqb a 8 (λ e. omega arith))
+    (cond-same (eqb a k) _ (below-at (λ j. agree a j) 8 (below-at (λ b. everyBelow 8 (λ j. agree b j)) 8 agree-all a h) k l))
+
+pub any-asked : (a : ℕ) (k : Kind) → a ≡ 8 → true ≡ asks a k
+any-asked a k h = rw h

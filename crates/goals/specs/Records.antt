@@ -37,6 +37,17 @@ sameRecord c d = equal (numbers c) (numbers d)
 unfoldable pub hasName : ℕ → Record → Bool
 hasName a c = (eqb (c .kind) 1 && eqb a (c .a .0)) || (eqb (c .kind) 3 && (eqb a (c .a .0) || eqb a (c .b .0)))
 
+-- the records without the first copy of c
+unfoldable pub lacking : Record → List Record → List Record
+lacking c [] = []
+lacking c (d ∷ l) = cond (sameRecord c d) l (d ∷ lacking c l)
+
+-- the records that a premise's are added to: without the first needed, where the rule drops it
+abbrev pub keeping : Bool → List Record → List Record → List Record
+keeping false needs l = l
+keeping true [] l = l
+keeping true (c ∷ needs) l = lacking c l
+
 -- the step of a rule's number with its fields, in the order of the words
 unfoldable pub stepOf : ℕ → ℕ → ℕ → ℕ → Step
 stepOf rule x y z =
@@ -68,13 +79,13 @@ stepOf rule x y z =
 abbrev pub asks : ℕ → Kind → Bool
 asks asked k = cond (eqb asked 8) true (decide (Kind-discrete k (kindAt asked)))
 
--- the first n of two
-abbrev pub upTo {ℓ} : {A : Type ℓ} → ℕ → A → A → List A
-upTo n c d = getD ([] ∷ (c ∷ []) ∷ (c ∷ d ∷ []) ∷ []) n []
+-- none of two, the first, or both
+abbrev pub upTo : ℕ → Record → Record → List Record
+upTo n c d = getD ([] ∷ (c ∷ []) ∷ []) n (c ∷ d ∷ [])
 
 -- what comes last in each premise: 0 closes the goal, 1 and 2 add so many claims, 3 leaves two premises with a claim each
 abbrev pub added : ℕ → Record → Record → List (List Record)
-added leaves c d = getD ([] ∷ ((c ∷ []) ∷ []) ∷ ((c ∷ d ∷ []) ∷ []) ∷ ((c ∷ []) ∷ (d ∷ []) ∷ []) ∷ []) leaves []
+added leaves c d = getD ([] ∷ ((c ∷ []) ∷ []) ∷ ((c ∷ d ∷ []) ∷ []) ∷ []) leaves ((c ∷ []) ∷ (d ∷ []) ∷ [])
 
 -- the new name, where one is asked
 abbrev pub newsBy : Bool → ℕ → List ℕ
@@ -82,7 +93,7 @@ newsBy true b = b ∷ []
 newsBy false b = []
 
 -- the code's plan p, at an entry of kind k, is the plan q
-pub record Shows (k : Kind) (p : Planned) (q : Plan) : Type 0 where
+pub record Plans (k : Kind) (p : Planned) (q : Plan) : Type 0 where
   pub asked : asks (p .kind) k ≡ q .asks
   pub needed : upTo (p .needs) (p .need) (p .also) ≡ map recordOf (q .needs)
   pub dropped : p .drops ≡ q .drops

@@ -8,12 +8,14 @@ ghost use mathlib.Core.Path.{_≡_};
 ghost use mathlib.Core.List.{List, [], _∷_, _++_};
 ghost use Prim.Native.Nat.{_+_, _<_, _≤_};
 ghost use lib.ListN.{length, getD, take, drop};
-ghost use Rattle.alc.specs.Lists.{any, firstAt};
+ghost use mathlib.Core.Bool.{not, cond};
+ghost use lib.Dec.{ltb};
+ghost use Rattle.alc.specs.Lists.{any, every, firstAt};
 ghost use Rattle.alc.specs.Shown.{records, blank as blankRecord};
 ghost use Rattle.alc.specs.Shown.{kindAt};
 ghost use Rattle.alc.specs.Table.{Table, entry, entryOf};
 ghost use Rattle.alc.specs.Rules.{plan};
-ghost use Rattle.goals.specs.Records.{sameRecord, hasName, stepOf, closing, adding, parting, opening, Shows};
+ghost use Rattle.goals.specs.Records.{sameRecord, hasName, lacking, keeping, stepOf, asks, upTo, newsBy, closing, adding, parting, opening, Plans};
 
 // A line of the table: its kind's number, from 0 `top` to 7 `all`, and its two numbers.
 pub struct Entry {
@@ -147,7 +149,7 @@ fn opens(kind: u8, need: Claim, name: Name, first: Claim, second: Claim) -> Plan
 // The rules that close a goal: `id`, `id-sub`, `id-link`, `bot-l`, `top-r`.
 fn closing_rule(s: Step) -> Plan
     requires { ⌜ s .rule < 5 ⌝ }
-    ensures { λ r. ⌜ ((T : Table) → Shows (entry T (s .y) .kind) r (plan T (stepOf (s .rule) (s .x) (s .y) (s .z)))) ⌝ }
+    ensures { λ r. ⌜ ((T : Table) → Plans (entry T (s .y) .kind) r (plan T (stepOf (s .rule) (s .x) (s .y) (s .z)))) ⌝ }
 {
     let rule = s.rule;
     let left = alc::is(LEFT, Name(s.x), Concept(s.y));
@@ -174,7 +176,7 @@ fn closing_rule(s: Step) -> Plan
 // The rules on `top`, `bot`, `not`, `and` and `or`: `top-l`, `bot-r`, `not-l`, `not-r`, `and-l`, `and-r`, `or-l`, `or-r`.
 fn boolean_rule(s: Step, e: Entry) -> Plan
     requires { ⌜ (5 ≤ s .rule) × (s .rule < 13) ⌝ }
-    ensures { λ r. ⌜ ((T : Table) → entry T (s .y) ≡ entryOf (kindAt (e .kind)) (e .x) (e .y) → Shows (entry T (s .y) .kind) r (plan T (stepOf (s .rule) (s .x) (s .y) (s .z)))) ⌝ }
+    ensures { λ r. ⌜ ((T : Table) → entry T (s .y) ≡ entryOf (kindAt (e .kind)) (e .x) (e .y) → Plans (entry T (s .y) .kind) r (plan T (stepOf (s .rule) (s .x) (s .y) (s .z)))) ⌝ }
 {
     let rule = s.rule;
     let a = Name(s.x);
@@ -199,7 +201,7 @@ fn boolean_rule(s: Step, e: Entry) -> Plan
 // The rules on `sub`, `some` and `all`: `sub-l`, `sub-r`, `some-l`, `some-r`, `all-l`, `all-r`.
 fn role_rule(s: Step, e: Entry) -> Plan
     requires { ⌜ (13 ≤ s .rule) × (s .rule < 19) ⌝ }
-    ensures { λ r. ⌜ ((T : Table) → entry T (s .y) ≡ entryOf (kindAt (e .kind)) (e .x) (e .y) → Shows (entry T (s .y) .kind) r (plan T (stepOf (s .rule) (s .x) (s .y) (s .z)))) ⌝ }
+    ensures { λ r. ⌜ ((T : Table) → entry T (s .y) ≡ entryOf (kindAt (e .kind)) (e .x) (e .y) → Plans (entry T (s .y) .kind) r (plan T (stepOf (s .rule) (s .x) (s .y) (s .z)))) ⌝ }
 {
     let rule = s.rule;
     let b = Name(s.z);
@@ -233,7 +235,7 @@ fn role_rule(s: Step, e: Entry) -> Plan
 // The plan of a step, by its rule's number, at the entry of its second field.
 pub fn plan_of(s: Step, e: Entry) -> Plan
     requires { ⌜ s .rule < 19 ⌝ }
-    ensures { λ r. ⌜ ((T : Table) → entry T (s .y) ≡ entryOf (kindAt (e .kind)) (e .x) (e .y) → Shows (entry T (s .y) .kind) r (plan T (stepOf (s .rule) (s .x) (s .y) (s .z)))) ⌝ }
+    ensures { λ r. ⌜ ((T : Table) → entry T (s .y) ≡ entryOf (kindAt (e .kind)) (e .x) (e .y) → Plans (entry T (s .y) .kind) r (plan T (stepOf (s .rule) (s .x) (s .y) (s .z)))) ⌝ }
 {
     if s.rule < 5 {
         return closing_rule(s);
@@ -270,7 +272,7 @@ fn same(c: Claim, d: Claim) -> bool
 }
 
 // The place of the goal's first copy of a claim, or its count.
-pub fn find(g: Goal, c: Claim) -> usize
+fn find(g: Goal, c: Claim) -> usize
     requires { ⌜ g .count ≤ 64 ⌝ }
     ensures { λ r. ⌜ r ≡ firstAt (sameRecord c) (records g) ⌝ }
 {
@@ -303,7 +305,7 @@ fn names(c: Claim, a: Name) -> bool
 }
 
 // Whether the name stands anywhere in the goal.
-pub fn occurs(g: Goal, a: Name) -> bool
+fn occurs(g: Goal, a: Name) -> bool
     requires { ⌜ g .count ≤ 64 ⌝ }
     ensures { λ r. ⌜ r ≡ any (hasName (a .0)) (records g) ⌝ }
 {
@@ -319,12 +321,23 @@ pub fn occurs(g: Goal, a: Name) -> bool
     false
 }
 
-// The goal with one claim more, behind the others.
-pub fn with(g: Goal, c: Claim) -> Goal
-    requires { ⌜ g .count < 64 ⌝ }
-    ensures { λ r. ⌜ (records r ≡ records g ++ (c ∷ [])) × (r .count ≡ g .count + 1) ⌝ }
+// Whether the goal has the claim.
+fn has(g: Goal, c: Claim) -> bool
+    requires { ⌜ g .count ≤ 64 ⌝ }
+    ensures { λ r. ⌜ r ≡ any (sameRecord c) (records g) ⌝ }
+{
+    find(g, c) < g.count
+}
+
+// The goal with one claim more, behind the others; a full goal stays as it is.
+fn with(g: Goal, c: Claim) -> Goal
+    requires { ⌜ g .count ≤ 64 ⌝ }
+    ensures { λ r. ⌜ (records r ≡ cond (ltb (g .count) 64) (records g ++ (c ∷ [])) (records g)) × (r .count ≤ 64) ⌝ }
 {
     let n = g.count;
+    if n >= 64 {
+        return g;
+    }
     let mut out = g;
     out.claims[n] = c;
     out.count = n + 1;
@@ -332,7 +345,7 @@ pub fn with(g: Goal, c: Claim) -> Goal
 }
 
 // The goal without the claim at a place: those behind it move up.
-pub fn dropped(g: Goal, at: usize) -> Goal
+fn dropped(g: Goal, at: usize) -> Goal
     requires { ⌜ (g .count ≤ 64) × (at < g .count) ⌝ }
     ensures { λ r. ⌜ (records r ≡ take at (records g) ++ drop (at + 1) (records g)) × (r .count + 1 ≡ g .count) ⌝ }
 {
@@ -346,4 +359,71 @@ pub fn dropped(g: Goal, at: usize) -> Goal
     }
     out.count = last;
     out
+}
+
+// The goal without its first copy of a claim.
+fn without(g: Goal, c: Claim) -> Goal
+    requires { ⌜ g .count ≤ 64 ⌝ }
+    ensures { λ r. ⌜ (records r ≡ lacking c (records g)) × (r .count ≤ g .count) ⌝ }
+{
+    let at = find(g, c);
+    if at < g.count {
+        return dropped(g, at);
+    }
+    g
+}
+
+// Whether the entry is of the kind that the plan asks.
+fn asked(p: Plan, kind: u8) -> bool
+    requires { ⌜ (kind < 8) × (p .kind ≤ 8) ⌝ }
+    ensures { λ r. ⌜ r ≡ asks (p .kind) (kindAt kind) ⌝ }
+{
+    if p.kind == ANY {
+        return true;
+    }
+    p.kind == kind
+}
+
+// Whether the goal has all that the plan needs.
+fn needed(g: Goal, p: Plan) -> bool
+    requires { ⌜ g .count ≤ 64 ⌝ }
+    ensures { λ r. ⌜ r ≡ every (λ c. any (sameRecord c) (records g)) (upTo (p .needs) (p .need) (p .also)) ⌝ }
+{
+    if p.needs == 0 {
+        return true;
+    }
+    if !has(g, p.need) {
+        return false;
+    }
+    if p.needs == 1 {
+        return true;
+    }
+    has(g, p.also)
+}
+
+// Whether the name that must be new stands nowhere in the goal.
+fn is_new(g: Goal, p: Plan) -> bool
+    requires { ⌜ g .count ≤ 64 ⌝ }
+    ensures { λ r. ⌜ r ≡ every (λ a. not (any (hasName a) (records g))) (newsBy (p .fresh) (p .name .0)) ⌝ }
+{
+    let fresh = p.fresh;
+    if fresh {
+        return !occurs(g, p.name);
+    }
+    true
+}
+
+// The goal that a premise's claims are added to.
+fn kept(g: Goal, p: Plan) -> Goal
+    requires { ⌜ g .count ≤ 64 ⌝ }
+    ensures { λ r. ⌜ (records r ≡ keeping (p .drops) (upTo (p .needs) (p .need) (p .also)) (records g)) × (r .count ≤ 64) ⌝ }
+{
+    let drops = p.drops;
+    if p.needs == 0 {
+        return g;
+    }
+    if drops {
+        return without(g, p.need);
+    }
+    g
 }
