@@ -7,16 +7,17 @@ use native.Mathlib.Numerals.{add-one}
 use native.Mathlib.Decide.{ℕ-discrete, decLt}
 use mathlib.Core.Bool.{Bool, true, false, not, cond, _&&_, _||_, decide, decide-iff, true≢false, false≢true}
 use mathlib.Core.List.{List, [], _∷_, _++_, map}
-use mathlib.Core.Path.{_≡_, refl, sym, ap, _∙_}
-use lib.Dec.{eqb, ltb}
+use mathlib.Core.Path.{_≡_, refl, sym, ap, ap₂, _∙_}
+use lib.Dec.{eqb, ltb, leb}
 use lib.ListN.{length, getD, take, drop, set, drop-of-length-le, length-map, length-append, length-drop, length-set, List·getD-append}
 use mir.Val.{Val}
 use denote.Laws.{Is}
-use denote.Struct.Declared.{row}
+use denote.Struct.Declared as declared
 use lib.Seq.{drop-cons, getD-take, getD-drop, getD-append-add, getD-set-same, getD-set-other, length-take-le, ext-getD}
-use borrow.Author.Tests.{eqb-true, eq-eqb, ne-eqb, lt-ltb, ltb-true}
+use borrow.Author.Tests.{eqb-true, eq-eqb, ne-eqb, lt-ltb, le-ltb, ltb-true, le-leb, leb-true}
 use Rattle.alc.specs.Lists.{any, every, firstAt, elem}
 use Rattle.alc.specs.Claims.{Claim, is, sub, link, Claim-discrete, Sided, left, right, Sided-discrete, Goal, same, has, without, names, claim}
+use Rattle.alc.specs.Rows.{refusal}
 use Rattle.alc.specs.Meaning.{everyBelow}
 use Rattle.alc.specs.Table.{Kind, Kind-discrete}
 use Rattle.alc.specs.Shown.{recordOf, sidedOf, records, blank, kindAt}
@@ -24,7 +25,8 @@ use Rattle.alc.proofs.ShownLaws.{record-once}
 use Rattle.alc.specs.declared.Claim.{Claim as Record}
 use Rattle.alc.specs.declared.Goal.{Goal as Records}
 use Rattle.alc.proofs.Goal.{the-type}
-use Rattle.goals.specs.Records.{numbers, equal, sameRecord, hasName, lacking, keeping, asks, upTo, newsBy}
+use Rattle.goals.specs.declared.Plan.{Plan as Planned}
+use Rattle.goals.specs.Records.{numbers, equal, sameRecord, hasName, lacking, keeping, asks, upTo, newsBy, added, recordRows}
 
 pub and-left : (a b : Bool) → (a && b) ≡ true → a ≡ true
 and-left true b h = refl
@@ -37,6 +39,10 @@ and-right false b h = absurd (false≢true h)
 and-end : (b : Bool) → b ≡ (b && true)
 and-end true = refl
 and-end false = refl
+
+and-twice : (b : Bool) → b ≡ (b && (b && true))
+and-twice true = refl
+and-twice false = refl
 
 pub not-so : (b : Bool) → (b ≡ true → ⊥) → false ≡ b
 not-so true h = absurd (h refl)
@@ -98,7 +104,7 @@ module _ (a : ℕ) (c : Record) where
   name-link k = rw k
 
 -- the records of a goal that is passed: how many, and each
-module _ (g : Records) (vs : List Val) (told : Is (row the-type) g vs) (few : g .count ≤ 64) where
+module _ (g : Records) (vs : List Val) (told : Is (declared.row the-type) g vs) (few : g .count ≤ 64) where
   pub all-length : length (g .claims) ≡ 64
   all-length = sym (length-map (g .claims) _) ∙ told .1 .1 .0 .1 .0 .1
 
@@ -301,3 +307,106 @@ kind-asked a k h l =
 
 pub any-asked : (a : ℕ) (k : Kind) → a ≡ 8 → true ≡ asks a k
 any-asked a k h = rw h
+
+-- what a plan adds, by its number
+module _ (c d : Record) where
+  pub added-none : (n : ℕ) → n ≡ 0 → added n c d ≡ []
+  added-none n h = rw h
+
+  pub added-both : (n : ℕ) → n ≡ 2 → added n c d ≡ (c ∷ d ∷ []) ∷ []
+  added-both n h = rw h
+
+  pub added-first : (n : ℕ) → (n ≡ 0 → ⊥) → (n ≡ 2 → ⊥) → getD (added n c d) 0 [] ≡ c ∷ []
+  added-first zero h g = absurd (h refl)
+  added-first (suc zero) h g = refl
+  added-first (suc (suc zero)) h g = absurd (g refl)
+  added-first (suc (suc (suc n))) h g = refl
+
+  pub open-one : (n : ℕ) → (n ≡ 0 → ⊥) → n < 3 → 1 ≡ length (added n c d)
+  open-one zero h g = absurd (h refl)
+  open-one (suc zero) h g = refl
+  open-one (suc (suc zero)) h g = refl
+  open-one (suc (suc (suc n))) h g = absurd (omega arith)
+
+  pub open-two : (n : ℕ) → 3 ≤ n → 2 ≡ length (added n c d)
+  open-two zero g = absurd (omega arith)
+  open-two (suc zero) g = absurd (omega arith)
+  open-two (suc (suc zero)) g = absurd (omega arith)
+  open-two (suc (suc (suc n))) g = refl
+
+  -- no premise is too long, by the length m of what is kept
+  module _ (k : List Record) (m : ℕ) (e : length k ≡ m) where
+    long : (l : List Record) (b : ℕ) → b + length l ≡ 65 → ltb m b ≡ leb (length (k ++ l)) 64
+    long l b h =
+        let s : length (k ++ l) ≡ m + length l = length-append k l ∙ ap (λ j. j + length l) e in
+        bool-by (ltb m b) (leb (length (k ++ l)) 64) (λ t. le-leb (length (k ++ l)) 64 (omega (arith, ltb-true m b t)))
+        (λ t. lt-ltb m b (omega (arith, leb-true (length (k ++ l)) 64 t)))
+
+    pub fits-two : (n : ℕ) → n ≡ 2 → ltb m 63 ≡ every (λ l. leb (length (k ++ l)) 64) (added n c d)
+    fits-two n h = rw h (and-end (ltb m 63) ∙ ap (λ b. b && true) (long (c ∷ d ∷ []) 63 refl))
+
+    pub fits-one : (n : ℕ) → (n ≡ 0 → ⊥) → (n ≡ 2 → ⊥) → ltb m 64 ≡ every (λ l. leb (length (k ++ l)) 64) (added n c d)
+    fits-one zero h g = absurd (h refl)
+    fits-one (suc zero) h g = and-end (ltb m 64) ∙ ap (λ b. b && true) (long (c ∷ []) 64 refl)
+    fits-one (suc (suc zero)) h g = absurd (g refl)
+    fits-one (suc (suc (suc n))) h g =
+        and-twice (ltb m 64) ∙ ap₂ (λ a b. a && (b && true)) (long (c ∷ []) 64 refl) (long (d ∷ []) 64 refl)
+
+-- the rows of a plan, read from the top
+module _ (kind : ℕ) (p : Planned) (g k : List Record) (w : ℕ) where
+  abbrev ls : List (List Record)
+  ls = added (p .leaves) (p .first) (p .second)
+
+  abbrev t7 : Bool
+  t7 = every (λ c. any (sameRecord c) g) (upTo (p .needs) (p .need) (p .also))
+
+  abbrev t8 : Bool
+  t8 = every (λ a. not (any (hasName a) g)) (newsBy (p .fresh) (p .name .0))
+
+  abbrev t10 : Bool
+  t10 = every (λ l. leb (length (k ++ l)) 64) ls
+
+  pub at-6 : asks (p .kind) (kindAt kind) ≡ false → 6 ≡ refusal (recordRows kind p g k w)
+  unfolding recordRows
+  at-6 e = rw e
+
+  module _ (e6 : asks (p .kind) (kindAt kind) ≡ true) where
+    pub at-7 : t7 ≡ false → 7 ≡ refusal (recordRows kind p g k w)
+    unfolding recordRows
+    at-7 e = rw (e6, e)
+
+    module _ (e7 : t7 ≡ true) where
+      pub at-8 : t8 ≡ false → 8 ≡ refusal (recordRows kind p g k w)
+      unfolding recordRows
+      at-8 e = rw (e6, e7, e)
+
+      module _ (e8 : t8 ≡ true) where
+        pub at-10 : t10 ≡ false → 10 ≡ refusal (recordRows kind p g k w)
+        unfolding recordRows
+        at-10 e = rw (e6, e7, e8, e)
+
+        module _ (e10 : t10 ≡ true) where
+          pub at-11 : leb (length ls + w) 17 ≡ false → 11 ≡ refusal (recordRows kind p g k w)
+          unfolding recordRows
+          at-11 e = rw (e6, e7, e8, e10, e)
+
+          pub at-0 : leb (length ls + w) 17 ≡ true → 0 ≡ refusal (recordRows kind p g k w)
+          unfolding recordRows
+          at-0 e = rw (e6, e7, e8, e10, e)
+
+-- where a goal is not full the claim comes
+pub with-more : {A : Type 0} (n : ℕ) (x y z : A) → n < 64 → x ≡ cond (ltb n 64) y z → x ≡ y
+with-more n x y z h e = rw (lt-ltb n 64 h) at e
+
+pub with-count : (n m : ℕ) → n ≤ 64 → m ≡ cond (ltb n 64) (n + 1) n → m ≤ 64
+with-count n m h e = go (decLt n 64)
+  where
+    go : Dec (n < 64) → m ≤ 64
+    go (yes l) = omega (arith, with-more n m (n + 1) n l e)
+    go (no l) = let f : m ≡ n = rw (le-ltb n 64 (omega arith)) at e in omega arith
+
+pub few-open : (n : ℕ) (c d : Record) → length (added n c d) ≤ 2
+few-open zero c d = omega arith
+few-open (suc zero) c d = omega arith
+few-open (suc (suc zero)) c d = omega arith
+few-open (suc (suc (suc n))) c d = omega arith

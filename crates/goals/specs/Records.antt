@@ -1,12 +1,12 @@
 -- Lists of claim records: when two are the same, which names one has, and how a rule's plan is shown by records.
 -- Assumes nothing.
 use Prim.Native.Nat.{ℕ, _+_}
-use mathlib.Core.Bool.{Bool, true, false, cond, decide, _&&_, _||_}
-use mathlib.Core.List.{List, [], _∷_, map}
+use mathlib.Core.Bool.{Bool, true, false, not, cond, decide, _&&_, _||_}
+use mathlib.Core.List.{List, [], _∷_, _++_, map}
 use mathlib.Core.Path.{_≡_}
 use lib.Dec.{eqb, leb}
 use lib.ListN.{length, getD}
-use Rattle.alc.specs.Lists.{every}
+use Rattle.alc.specs.Lists.{any, every}
 use Rattle.alc.specs.Rows.{Row, row}
 use Rattle.alc.specs.Table.{Kind, Kind-discrete}
 use Rattle.alc.specs.Claims.{Sided, Goal, has}
@@ -117,7 +117,18 @@ abbrev pub opening : ℕ → Record → Name → Record → Record → Planned
 opening k need b first second =
     record { kind = k; needs = 1; need = need; also = need; drops = true; fresh = true; name = b; leaves = 2; first = first; second = second }
 
--- the rows of a step that speak of its rule, at the goal g with w goals waiting
+-- the rows of a step that speak of its rule, as the records say them: at the records g, of which the plan keeps those of k, with w goals waiting
+unfoldable pub recordRows : ℕ → Planned → List Record → List Record → ℕ → List Row
+recordRows kind p g k w =
+    let ls = added (p .leaves) (p .first) (p .second) in
+    row 6 (asks (p .kind) (kindAt kind))
+    ∷ row 7 (every (λ c. any (sameRecord c) g) (upTo (p .needs) (p .need) (p .also)))
+    ∷ row 8 (every (λ a. not (any (hasName a) g)) (newsBy (p .fresh) (p .name .0)))
+    ∷ row 10 (every (λ l. leb (length (k ++ l)) 64) ls)
+    ∷ row 11 (leb (length ls + w) 17)
+    ∷ []
+
+-- the same rows as the definitions say them, at the goal g with w goals waiting
 unfoldable pub ruleRows : Plan → Goal → ℕ → List Row
 ruleRows p g w =
     row 6 (p .asks)

@@ -8,14 +8,15 @@ ghost use mathlib.Core.Path.{_≡_};
 ghost use mathlib.Core.List.{List, [], _∷_, _++_};
 ghost use Prim.Native.Nat.{_+_, _<_, _≤_};
 ghost use lib.ListN.{length, getD, take, drop};
-ghost use mathlib.Core.Bool.{not, cond};
-ghost use lib.Dec.{ltb};
+ghost use mathlib.Core.Bool.{true, not, cond};
+ghost use Rattle.alc.specs.Rows.{refusal};
+ghost use lib.Dec.{ltb, leb};
 ghost use Rattle.alc.specs.Lists.{any, every, firstAt};
 ghost use Rattle.alc.specs.Shown.{records, blank as blankRecord};
 ghost use Rattle.alc.specs.Shown.{kindAt};
 ghost use Rattle.alc.specs.Table.{Table, entry, entryOf};
 ghost use Rattle.alc.specs.Rules.{plan};
-ghost use Rattle.goals.specs.Records.{sameRecord, hasName, lacking, keeping, stepOf, asks, upTo, newsBy, closing, adding, parting, opening, Plans};
+ghost use Rattle.goals.specs.Records.{sameRecord, hasName, lacking, keeping, stepOf, asks, upTo, newsBy, added, recordRows, closing, adding, parting, opening, Plans};
 
 // A line of the table: its kind's number, from 0 `top` to 7 `all`, and its two numbers.
 pub struct Entry {
@@ -332,7 +333,7 @@ fn has(g: Goal, c: Claim) -> bool
 // The goal with one claim more, behind the others; a full goal stays as it is.
 fn with(g: Goal, c: Claim) -> Goal
     requires { ⌜ g .count ≤ 64 ⌝ }
-    ensures { λ r. ⌜ (records r ≡ cond (ltb (g .count) 64) (records g ++ (c ∷ [])) (records g)) × (r .count ≤ 64) ⌝ }
+    ensures { λ r. ⌜ (records r ≡ cond (ltb (g .count) 64) (records g ++ (c ∷ [])) (records g)) × (r .count ≡ cond (ltb (g .count) 64) (g .count + 1) (g .count)) ⌝ }
 {
     let n = g.count;
     if n >= 64 {
@@ -414,7 +415,7 @@ fn is_new(g: Goal, p: Plan) -> bool
 }
 
 // The goal that a premise's claims are added to.
-fn kept(g: Goal, p: Plan) -> Goal
+pub fn kept(g: Goal, p: Plan) -> Goal
     requires { ⌜ g .count ≤ 64 ⌝ }
     ensures { λ r. ⌜ (records r ≡ keeping (p .drops) (upTo (p .needs) (p .need) (p .also)) (records g)) × (r .count ≤ 64) ⌝ }
 {
@@ -426,4 +427,77 @@ fn kept(g: Goal, p: Plan) -> Goal
         return without(g, p.need);
     }
     g
+}
+
+// Whether no premise has over 64 claims, when it adds to the goal k.
+fn fits(k: Goal, p: Plan) -> bool
+    requires { ⌜ k .count ≤ 64 ⌝ }
+    ensures { λ r. ⌜ r ≡ every (λ l. leb (length (records k ++ l)) 64) (added (p .leaves) (p .first) (p .second)) ⌝ }
+{
+    if p.leaves == 0 {
+        return true;
+    }
+    if p.leaves == 2 {
+        return k.count < 63;
+    }
+    k.count < 64
+}
+
+// How many premises the plan leaves.
+pub fn open(p: Plan) -> usize
+    ensures { λ r. ⌜ r ≡ length (added (p .leaves) (p .first) (p .second)) ⌝ }
+{
+    if p.leaves == 0 {
+        return 0;
+    }
+    if p.leaves < 3 {
+        return 1;
+    }
+    2
+}
+
+// The number of the first row that the step does not pass at the goal g, of which it keeps k, with so many goals waiting; 0 if it passes all.
+pub fn refused(g: Goal, k: Goal, p: Plan, kind: u8, waiting: usize) -> u8
+    requires { ⌜ (g .count ≤ 64) × (k .count ≤ 64) × (kind < 8) × (p .kind ≤ 8) × (waiting ≤ 16) ⌝ }
+    ensures { λ r. ⌜ r ≡ refusal (recordRows kind p (records g) (records k) waiting) ⌝ }
+{
+    if !asked(p, kind) {
+        return 6;
+    }
+    if !needed(g, p) {
+        return 7;
+    }
+    if !is_new(g, p) {
+        return 8;
+    }
+    if !fits(k, p) {
+        return 10;
+    }
+    if open(p) + waiting > 17 {
+        return 11;
+    }
+    0
+}
+
+// The first premise, from the goal kept.
+pub fn first_premise(k: Goal, p: Plan) -> Goal
+    requires { ⌜ (k .count ≤ 64) × (every (λ l. leb (length (records k ++ l)) 64) (added (p .leaves) (p .first) (p .second)) ≡ true) ⌝ }
+    ensures { λ r. ⌜ (records r ≡ records k ++ getD (added (p .leaves) (p .first) (p .second)) 0 []) × (r .count ≤ 64) ⌝ }
+{
+    if p.leaves == 0 {
+        return k;
+    }
+    let one = with(k, p.first);
+    if p.leaves == 2 {
+        return with(one, p.second);
+    }
+    one
+}
+
+// The second premise, from the goal kept.
+pub fn second_premise(k: Goal, p: Plan) -> Goal
+    requires { ⌜ (k .count ≤ 64) × (p .leaves ≡ 3) × (every (λ l. leb (length (records k ++ l)) 64) (added (p .leaves) (p .first) (p .second)) ≡ true) ⌝ }
+    ensures { λ r. ⌜ (records r ≡ records k ++ getD (added (p .leaves) (p .first) (p .second)) 1 []) × (r .count ≤ 64) ⌝ }
+{
+    with(k, p.second)
 }

@@ -11,7 +11,7 @@ use Rattle.goals.proofs.with.Statement.{statement}
 use Rattle.goals.proofs.with.Tie as tie
 
 returns : tie.Need-returns
-returns c = (rw (le-ltb (c .before .args .g .count) 64 (c .if1 .taken)), c .before .pre)
+returns c = let full = le-ltb (c .before .args .g .count) 64 (c .if1 .taken) in (rw full, rw full)
 
 mul-c : tie.Need-mul-c
 mul-c c = search needs
@@ -27,7 +27,8 @@ returns-2 c =
     let s = c .before in
     let g = s .args .g in
     let h : g .count < length (g .claims) = omega (arith, all-length g _ (s .good .0) (s .pre)) in
-    (rw (lt-ltb (g .count) 64 (c .if1 .left), add-one (g .count)) (take-suc-set (g .claims) (g .count) (s .args .c) h), omega arith)
+    let room = lt-ltb (g .count) 64 (c .if1 .left) in
+    (rw (room, add-one (g .count)) (take-suc-set (g .claims) (g .count) (s .args .c) h), rw room)
 
 pub with-spec : {M : Type 1} → statement M
 with-spec = tie.close (tie.spec returns mul-c element-set-from-c add-out returns-2)
