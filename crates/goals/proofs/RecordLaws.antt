@@ -299,11 +299,15 @@ cond-same true c h = sym h
 cond-same false true h = h
 cond-same false false h = refl
 
-pub kind-asked : (a k : ℕ) → a < 8 → k < 8 → eqb a k ≡ asks a (kindAt k)
+pub kind-asked : (a k : ℕ) → (a ≡ 8 → ⊥) → k < 8 → eqb a k ≡ asks a (kindAt k)
 unfolding agree
-kind-asked a k h l =
-    rw (ne-eqb a 8 (λ e. omega arith))
-    (cond-same (eqb a k) _ (below-at (λ j. agree a j) 8 (below-at (λ b. everyBelow 8 (λ j. agree b j)) 8 agree-all a h) k l))
+kind-asked a k n l = go (decLt a 8)
+  where
+    go : Dec (a < 8) → eqb a k ≡ asks a (kindAt k)
+    go (yes h) =
+        rw (ne-eqb a 8 n, lt-ltb a 8 h)
+        (cond-same (eqb a k) _ (below-at (λ j. agree a j) 8 (below-at (λ b. everyBelow 8 (λ j. agree b j)) 8 agree-all a h) k l))
+    go (no h) = rw (ne-eqb a 8 n, le-ltb a 8 (omega arith), ne-eqb a k (λ e. omega arith))
 
 pub any-asked : (a : ℕ) (k : Kind) → a ≡ 8 → true ≡ asks a k
 any-asked a k h = rw h

@@ -4,7 +4,7 @@ use Prim.Native.Nat.{ℕ, _+_}
 use mathlib.Core.Bool.{Bool, true, false, not, cond, decide, _&&_, _||_}
 use mathlib.Core.List.{List, [], _∷_, _++_, map}
 use mathlib.Core.Path.{_≡_}
-use lib.Dec.{eqb, leb}
+use lib.Dec.{eqb, ltb, leb}
 use lib.ListN.{length, getD}
 use Rattle.alc.specs.Lists.{any, every}
 use Rattle.alc.specs.Rows.{Row, row}
@@ -77,7 +77,7 @@ stepOf rule x y z =
 
 -- the entry is of the kind asked; 8 asks none
 abbrev pub asks : ℕ → Kind → Bool
-asks asked k = cond (eqb asked 8) true (decide (Kind-discrete k (kindAt asked)))
+asks asked k = cond (eqb asked 8) true (ltb asked 8 && decide (Kind-discrete k (kindAt asked)))
 
 -- none of two, the first, or both
 abbrev pub upTo : ℕ → Record → Record → List Record

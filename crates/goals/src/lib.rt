@@ -376,7 +376,7 @@ fn without(g: Goal, c: Claim) -> Goal
 
 // Whether the entry is of the kind that the plan asks.
 fn asked(p: Plan, kind: u8) -> bool
-    requires { ⌜ (kind < 8) × (p .kind ≤ 8) ⌝ }
+    requires { ⌜ kind < 8 ⌝ }
     ensures { λ r. ⌜ r ≡ asks (p .kind) (kindAt kind) ⌝ }
 {
     if p.kind == ANY {
@@ -458,7 +458,7 @@ pub fn open(p: Plan) -> usize
 
 // The number of the first row that the step does not pass at the goal g, of which it keeps k, with so many goals waiting; 0 if it passes all.
 pub fn refused(g: Goal, k: Goal, p: Plan, kind: u8, waiting: usize) -> u8
-    requires { ⌜ (g .count ≤ 64) × (k .count ≤ 64) × (kind < 8) × (p .kind ≤ 8) × (waiting ≤ 16) ⌝ }
+    requires { ⌜ (g .count ≤ 64) × (k .count ≤ 64) × (kind < 8) × (waiting ≤ 16) ⌝ }
     ensures { λ r. ⌜ r ≡ refusal (recordRows kind p (records g) (records k) waiting) ⌝ }
 {
     if !asked(p, kind) {

@@ -1,5 +1,4 @@
 -- `goals::asked` meets its contract: 8 asks nothing, and two kinds are the same exactly if their numbers are. Assumes nothing.
-use native.Mathlib.Omega.{arith}
 use Rattle.goals.proofs.RecordLaws.{kind-asked, any-asked}
 use Rattle.goals.proofs.asked.Statement.{statement}
 use Rattle.goals.proofs.asked.Tie as tie
@@ -10,7 +9,7 @@ returns c = any-asked _ _ (c .if1 .taken)
 returns-2 : tie.Need-returns-2
 returns-2 c =
     let s = c .before .before .before in
-    kind-asked (s .args .p .kind) (s .args .kind) (omega arith) (s .pre .0)
+    kind-asked (s .args .p .kind) (s .args .kind) (c .before .if1 .left) (s .pre)
 
 pub asked-spec : {M : Type 1} → statement M
 asked-spec = tie.close (tie.spec returns returns-2)

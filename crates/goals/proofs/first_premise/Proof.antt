@@ -36,12 +36,13 @@ returns-2 c =
     let m : ltb (k .count) 63 ≡ true = fits-two (p .first) (p .second) (records k) (k .count) (records-length k _ (s .good .0) (s .pre .0)) (p .leaves) (c .before .if2 .taken) ∙ s .pre .1 in
     let l : k .count < 63 = ltb-true (k .count) 63 m in
     let one = with-more (k .count) _ _ _ (omega arith) (w .with .ensures .0) in
-    let count = with-more (k .count) _ _ _ (omega arith) (w .with .ensures .1) in
-    (with-more (w .with .result .count) _ _ _ (omega arith) (c .with2 .ensures .0)
-      ∙ ap (λ (r : List Record). r ++ (p .second ∷ [])) one
-      ∙ append-assoc (records k) (p .first ∷ []) (p .second ∷ [])
-      ∙ (rw (added-both (p .first) (p .second) (p .leaves) (c .before .if2 .taken))),
-    with-count (w .with .result .count) _ (omega arith) (c .with2 .ensures .1))
+    let count = with-more (k .count) _ _ _ (omega arith) (w .with .ensures .1) in (
+      with-more (w .with .result .count) _ _ _ (omega arith) (c .with2 .ensures .0)
+          ∙ ap (λ (r : List Record). r ++ (p .second ∷ [])) one
+          ∙ append-assoc (records k) (p .first ∷ []) (p .second ∷ [])
+          ∙ (rw (added-both (p .first) (p .second) (p .leaves) (c .before .if2 .taken))),
+      with-count (w .with .result .count) _ (omega arith) (c .with2 .ensures .1),
+    )
 
 returns-3 : tie.Need-returns-3
 returns-3 c =
@@ -51,9 +52,10 @@ returns-3 c =
     let p = s .args .p in
     let m : ltb (k .count) 64 ≡ true =
     fits-one (p .first) (p .second) (records k) (k .count) (records-length k _ (s .good .0) (s .pre .0)) (p .leaves) (w .before .if1 .left) (c .if2 .left) ∙ s .pre .1 in
-    let l : k .count < 64 = ltb-true (k .count) 64 m in
-    (with-more (k .count) _ _ _ l (w .with .ensures .0) ∙ ap (λ (r : List Record). records k ++ r) (sym (added-first (p .first) (p .second) (p .leaves) (w .before .if1 .left) (c .if2 .left))),
-    with-count _ _ (s .pre .0) (w .with .ensures .1))
+    let l : k .count < 64 = ltb-true (k .count) 64 m in (
+      with-more (k .count) _ _ _ l (w .with .ensures .0) ∙ ap (λ (r : List Record). records k ++ r) (sym (added-first (p .first) (p .second) (p .leaves) (w .before .if1 .left) (c .if2 .left))),
+      with-count _ _ (s .pre .0) (w .with .ensures .1),
+    )
 
 pub first-premise-spec : {M : Type 1} → statement M
 first-premise-spec = tie.close (tie.spec returns with-requires with-requires-2 returns-2 returns-3)

@@ -52,7 +52,7 @@ add-if5 : tie.Need-add-if5
 add-if5 c =
     let s = c .before .before .before .before .before .before .before .before .before in
     let p = s .args .p in
-    omega (arith, c .«open» .ensures, few-open (p .leaves) (p .first) (p .second), s .pre .4)
+    omega (arith, c .«open» .ensures, few-open (p .leaves) (p .first) (p .second), s .pre .3)
 
 returns-5 : tie.Need-returns-5
 returns-5 c =
