@@ -326,6 +326,18 @@ module _ (c d : Record) where
   added-first (suc (suc zero)) h g = absurd (g refl)
   added-first (suc (suc (suc n))) h g = refl
 
+  pub added-second : (n : ℕ) → 3 ≤ n → getD (added n c d) 1 [] ≡ d ∷ []
+  added-second zero g = absurd (omega arith)
+  added-second (suc zero) g = absurd (omega arith)
+  added-second (suc (suc zero)) g = absurd (omega arith)
+  added-second (suc (suc (suc n))) g = refl
+
+  pub two-opens : (n : ℕ) → length (added n c d) ≡ 2 → 3 ≤ n
+  two-opens zero g = absurd (omega arith)
+  two-opens (suc zero) g = absurd (omega arith)
+  two-opens (suc (suc zero)) g = absurd (omega arith)
+  two-opens (suc (suc (suc n))) g = omega arith
+
   pub open-one : (n : ℕ) → (n ≡ 0 → ⊥) → n < 3 → 1 ≡ length (added n c d)
   open-one zero h g = absurd (h refl)
   open-one (suc zero) h g = refl

@@ -17,11 +17,12 @@ use Rattle.alc.specs.Table.{Table}
 use Rattle.alc.specs.Claims.{Claim, is, sub, link, Claim-discrete, Sided, left, right, Sided-discrete, Goal, same, has, without}
 use Rattle.alc.specs.Rules.{Step, stepFields, Plan, plan}
 use Rattle.alc.specs.Goals.{avoids, areNew, rest, premises, stepRows}
-use Rattle.alc.specs.Shown.{recordOf, kindAt}
+use Rattle.alc.specs.Shown.{recordOf, kindAt, Shows}
 use Rattle.alc.proofs.ShownLaws.{record-once}
 use Rattle.alc.specs.declared.Claim.{Claim as Record}
 use Rattle.goals.specs.declared.Plan.{Plan as Planned}
-use Rattle.goals.specs.Records.{sameRecord, hasName, lacking, keeping, upTo, newsBy, added, recordRows, ruleRows, Plans}
+use Rattle.goals.specs.declared.Turn.{Turn}
+use Rattle.goals.specs.Records.{sameRecord, hasName, lacking, keeping, asks, upTo, newsBy, added, recordRows, ruleRows, Plans, Leaves, none, one, two}
 use Rattle.goals.proofs.RecordLaws.{bool-by, same-eq, eq-same}
 
 same-record : (s t : Sided) → sameRecord (recordOf s) (recordOf t) ≡ same s t
@@ -155,3 +156,49 @@ pub step-rows : (T : Table) (n : ℕ) (g : Goal) (gs : List Goal) (s : Step)
     ≡ cond (ltb n 1024) (cond (every (inRange (length T) 0) (stepFields s)) (refusal (ruleRows (plan T s) g (length gs))) 3) 5
 unfolding stepRows ruleRows
 step-rows T n g gs s = rw (length-append (premises (plan T s) g) gs)
+
+-- the same for the records that the code holds: those of the goal g, and those k that the plan keeps of them
+module _ (kind : ℕ) (p : Planned) (q : Plan) (pl : Plans (kindAt kind) p q) (cs : List Sided) (g k : List Record)
+    (sg : g ≡ map recordOf cs) (sk : k ≡ keeping (p .drops) (upTo (p .needs) (p .need) (p .also)) g) where
+  held : k ≡ map recordOf (kept kind p q pl cs)
+  held = sk ∙ ap (keeping (p .drops) (upTo (p .needs) (p .need) (p .also))) sg ∙ kept-shown kind p q pl cs
+
+  pub held-rows : (w : ℕ) → refusal (recordRows kind p g k w) ≡ refusal (ruleRows q cs w)
+  held-rows w = ap₂ (λ a b. refusal (recordRows kind p a b w)) sg held ∙ rows-shown kind p q pl cs w
+
+  pub held-premise : (i : ℕ) → i < length (premises q cs) → k ++ getD (added (p .leaves) (p .first) (p .second)) i [] ≡ map recordOf (getD (premises q cs) i [])
+  held-premise i h = ap (λ a. a ++ getD (added (p .leaves) (p .first) (p .second)) i []) held ∙ premise-shown kind p q pl cs i h
+
+-- where no row fails no premise is too long
+cond-zero : (b : Bool) (x n : ℕ) → (n ≡ 0 → ⊥) → cond b x n ≡ 0 → (b ≡ true) × (x ≡ 0)
+cond-zero true x n h e = (refl, e)
+cond-zero false x n h e = absurd (h e)
+
+pub all-small : (kind : ℕ) (p : Planned) (g k : List Record) (w : ℕ) → refusal (recordRows kind p g k w) ≡ 0
+    → every (λ l. leb (length (k ++ l)) 64) (added (p .leaves) (p .first) (p .second)) ≡ true
+unfolding recordRows
+all-small kind p g k w e =
+    let e6 = cond-zero (asks (p .kind) (kindAt kind)) _ 6 six e in
+    let e7 = cond-zero (every (λ c. any (sameRecord c) g) (upTo (p .needs) (p .need) (p .also))) _ 7 seven (e6 .1) in
+    let e8 = cond-zero (every (λ a. not (any (hasName a) g)) (newsBy (p .fresh) (p .name .0))) _ 8 eight (e7 .1) in
+    cond-zero _ (cond (leb (length (added (p .leaves) (p .first) (p .second)) + w) 17) 0 11) 10 ten (e8 .1) .0
+  where
+    six : _≡_ {A = ℕ} 6 0 → ⊥
+    six h = omega arith
+
+    seven : _≡_ {A = ℕ} 7 0 → ⊥
+    seven h = omega arith
+
+    eight : _≡_ {A = ℕ} 8 0 → ⊥
+    eight h = omega arith
+
+    ten : _≡_ {A = ℕ} 10 0 → ⊥
+    ten h = omega arith
+
+-- the premises of a turn, by their count
+pub leaves-of : (t : Turn) (ps : List Goal) → t .opens ≡ length ps → length ps ≤ 2
+    → (1 ≤ length ps → Shows (t .over) (getD ps 0 [])) → (length ps ≡ 1 → Shows (t .under) (getD ps 0 [])) → (length ps ≡ 2 → Shows (t .under) (getD ps 1 [])) → Leaves t ps
+leaves-of t [] e l o u v = none e
+leaves-of t (h ∷ []) e l o u v = one h e (u refl)
+leaves-of t (h ∷ k ∷ []) e l o u v = two h k e (o (omega arith)) (v refl)
+leaves-of t (h ∷ k ∷ m ∷ ps) e l o u v = absurd (omega arith)

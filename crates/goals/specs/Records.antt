@@ -7,16 +7,17 @@ use mathlib.Core.Path.{_≡_}
 use lib.Dec.{eqb, ltb, leb}
 use lib.ListN.{length, getD}
 use Rattle.alc.specs.Lists.{any, every}
-use Rattle.alc.specs.Rows.{Row, row}
+use Rattle.alc.specs.Rows.{Row, row, refusal}
 use Rattle.alc.specs.Table.{Kind, Kind-discrete}
 use Rattle.alc.specs.Claims.{Sided, Goal, has}
 use Rattle.alc.specs.Rules
 use Rattle.alc.specs.Rules.{Step, Plan}
 use Rattle.alc.specs.Goals.{areNew, premises}
-use Rattle.alc.specs.Shown.{recordOf, kindAt}
+use Rattle.alc.specs.Shown.{Shows, recordOf, kindAt}
 use Rattle.alc.specs.declared.Claim.{Claim as Record}
 use Rattle.alc.specs.declared.Name.{Name}
 use Rattle.goals.specs.declared.Plan.{Plan as Planned}
+use Rattle.goals.specs.declared.Turn.{Turn}
 
 -- a record's numbers
 abbrev pub numbers : Record → List ℕ
@@ -137,3 +138,14 @@ ruleRows p g w =
     ∷ row 10 (every (λ h. leb (length h) 64) (premises p g))
     ∷ row 11 (leb (length (premises p g) + w) 17)
     ∷ []
+
+-- the premises that a turn leaves: none, one, or two, of which the first is worked on and the second waits under it
+pub data Leaves (t : Turn) : List Goal → Type 0 where
+  none : t .opens ≡ 0 → Leaves t []
+  one : (h : Goal) → t .opens ≡ 1 → Shows (t .under) h → Leaves t (h ∷ [])
+  two : (h k : Goal) → t .opens ≡ 2 → Shows (t .over) h → Shows (t .under) k → Leaves t (h ∷ k ∷ [])
+
+-- what a step does at the goal cs, with w goals waiting: the number of the first row that it does not pass, and its premises where it passes all
+pub record Turns (q : Plan) (cs : Goal) (w : ℕ) (t : Turn) : Type 0 where
+  pub number : t .number ≡ refusal (ruleRows q cs w)
+  pub leaves : t .number ≡ 0 → Leaves t (premises q cs)

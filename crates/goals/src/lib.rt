@@ -13,10 +13,11 @@ ghost use Rattle.alc.specs.Rows.{refusal};
 ghost use lib.Dec.{ltb, leb};
 ghost use Rattle.alc.specs.Lists.{any, every, firstAt};
 ghost use Rattle.alc.specs.Shown.{records, blank as blankRecord};
-ghost use Rattle.alc.specs.Shown.{kindAt};
+ghost use Rattle.alc.specs.Shown.{kindAt, Shows as ShowsGoal};
+ghost use Rattle.alc.specs.Claims.{Sided};
 ghost use Rattle.alc.specs.Table.{Table, entry, entryOf};
 ghost use Rattle.alc.specs.Rules.{plan};
-ghost use Rattle.goals.specs.Records.{sameRecord, hasName, lacking, keeping, stepOf, asks, upTo, newsBy, added, recordRows, closing, adding, parting, opening, Plans};
+ghost use Rattle.goals.specs.Records.{sameRecord, hasName, lacking, keeping, stepOf, asks, upTo, newsBy, added, recordRows, closing, adding, parting, opening, Plans, Turns};
 
 // A line of the table: its kind's number, from 0 `top` to 7 `all`, and its two numbers.
 pub struct Entry {
@@ -50,6 +51,15 @@ pub struct Plan {
     pub leaves: u8,
     pub first: Claim,
     pub second: Claim,
+}
+
+// What a step does to the current goal: the refusal's number, or 0 and how many premises it leaves. The one that waits, or the only one,
+// is `under`; the first of two is `over`.
+pub struct Turn {
+    pub number: u8,
+    pub opens: usize,
+    pub under: Goal,
+    pub over: Goal,
 }
 
 const LEFT: u8 = 1;
@@ -496,8 +506,42 @@ pub fn first_premise(k: Goal, p: Plan) -> Goal
 
 // The second premise, from the goal kept.
 pub fn second_premise(k: Goal, p: Plan) -> Goal
-    requires { ⌜ (k .count ≤ 64) × (p .leaves ≡ 3) × (every (λ l. leb (length (records k ++ l)) 64) (added (p .leaves) (p .first) (p .second)) ≡ true) ⌝ }
+    requires { ⌜ (k .count ≤ 64) × (3 ≤ p .leaves) × (every (λ l. leb (length (records k ++ l)) 64) (added (p .leaves) (p .first) (p .second)) ≡ true) ⌝ }
     ensures { λ r. ⌜ (records r ≡ records k ++ getD (added (p .leaves) (p .first) (p .second)) 1 []) × (r .count ≤ 64) ⌝ }
 {
     with(k, p.second)
+}
+
+// One step at the goal g, at the entry of its second field, with so many goals waiting.
+pub fn turn_of(g: Goal, s: Step, e: Entry, waiting: usize) -> Turn
+    requires { ⌜ (g .count ≤ 64) × (s .rule < 19) × (e .kind < 8) × (waiting ≤ 16) ⌝ }
+    ensures { λ r. ⌜ (((T : Table) (cs : List Sided) → entry T (s .y) ≡ entryOf (kindAt (e .kind)) (e .x) (e .y) → ShowsGoal g cs → Turns (plan T (stepOf (s .rule) (s .x) (s .y) (s .z))) cs waiting r) × (r .under .count ≤ 64) × (r .over .count ≤ 64) × (r .opens ≤ 2)) ⌝ }
+{
+    let p = plan_of(s, e);
+    let k = kept(g, p);
+    let number = refused(g, k, p, e.kind, waiting);
+    if number != 0 {
+        return Turn {
+            number: number,
+            opens: 0,
+            under: g,
+            over: g,
+        };
+    }
+    let opens = open(p);
+    let over = first_premise(k, p);
+    if opens == 2 {
+        return Turn {
+            number: 0,
+            opens: 2,
+            under: second_premise(k, p),
+            over: over,
+        };
+    }
+    Turn {
+        number: 0,
+        opens: opens,
+        under: over,
+        over: over,
+    }
 }
