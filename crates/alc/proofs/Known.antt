@@ -11,7 +11,7 @@ use Rattle.lines.specs.Text.{
   isNumber,
   words,
   rowOf,
-  place,
+  rowIndex,
   sideOf,
   behindOf,
   itemOf,
@@ -29,5 +29,5 @@ use Rattle.alc.specs.Verdict.{rows, after, ending, judge, verdict}
 use Rattle.alc.specs.Known.{known, asKnown}
 
 pub known-verdicts : every asKnown known ≡ true
-unfolding decide ℕ-discrete cut goodByte digit valueFrom leads isNumber words rowOf place sideOf behindOf itemOf fit linesOf member treeTo treeOf truth stepFields plan stepRows goalsAfter saidBy rows after ending judge verdict known
+unfolding decide ℕ-discrete cut goodByte digit valueFrom leads isNumber words rowOf rowIndex sideOf behindOf itemOf fit linesOf member treeTo treeOf truth stepFields plan stepRows goalsAfter saidBy rows after ending judge verdict known
 known-verdicts = refl
