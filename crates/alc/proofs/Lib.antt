@@ -1,2 +1,8 @@
 -- The known dossiers: `Known`.
 pub mod Known
+pub mod Logic
+pub mod ListFacts
+pub mod Trees
+pub mod Sound
+pub mod RulesSound
+pub mod Slides

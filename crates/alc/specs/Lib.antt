@@ -9,4 +9,7 @@ pub mod Goals
 pub mod Model
 pub mod Dossier
 pub mod Verdict
+pub mod Slide
+pub mod Derivation
+pub mod Reading
 pub mod Known
