@@ -6,3 +6,8 @@ pub mod Trees
 pub mod Sound
 pub mod RulesSound
 pub mod Slides
+pub mod Derive
+pub mod Passing
+pub mod Places
+pub mod Runs
+pub mod Heard

@@ -12,4 +12,5 @@ pub mod Verdict
 pub mod Slide
 pub mod Derivation
 pub mod Reading
+pub mod Refusal
 pub mod Known
