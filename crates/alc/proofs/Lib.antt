@@ -11,3 +11,4 @@ pub mod Passing
 pub mod Places
 pub mod Runs
 pub mod Heard
+pub mod Verdicts

@@ -12,5 +12,6 @@ pub mod Verdict
 pub mod Slide
 pub mod Derivation
 pub mod Reading
+pub mod Accepts
 pub mod Refusal
 pub mod Known
