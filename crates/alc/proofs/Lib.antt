@@ -12,3 +12,4 @@ pub mod Places
 pub mod Runs
 pub mod Heard
 pub mod Verdicts
+pub mod Meant
