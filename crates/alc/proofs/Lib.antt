@@ -13,3 +13,4 @@ pub mod Runs
 pub mod Heard
 pub mod Verdicts
 pub mod Meant
+pub mod Refusals

@@ -33,7 +33,7 @@ in-order S (fact f) = refl
 in-order S unread = refl
 
 -- no row has number 0
-numbered : (S : State) (s : Said) → every (λ r. ltb 0 (r .number)) (rows S s) ≡ true
+pub numbered : (S : State) (s : Said) → every (λ r. ltb 0 (r .number)) (rows S s) ≡ true
 unfolding rows stepRows
 numbered S (concept e) = refl
 numbered S (claim s) = refl
@@ -47,6 +47,10 @@ numbered S unread = refl
 pub first-refusal : {k : ℕ} {rs : List Row} → First k rs → refusal rs ≡ k
 first-refusal here = refl
 first-refusal (later f) = first-refusal f
+
+pub first-positive : {k : ℕ} {rs : List Row} → First k rs → every (λ r. ltb 0 (r .number)) rs ≡ true → 0 < k
+first-positive {k} (here {rs}) e = ltb-true 0 k (and-true (ltb 0 k) (every (λ r. ltb 0 (r .number)) rs) e .0)
+first-positive (later {j} {rs} f) e = first-positive f (and-true (ltb 0 j) (every (λ r. ltb 0 (r .number)) rs) e .1)
 
 pub passed-refusal : (rs : List Row) → AllPassed rs → refusal rs ≡ 0
 passed-refusal [] h = refl

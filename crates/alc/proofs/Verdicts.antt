@@ -63,12 +63,12 @@ verdict-judge room text h k =
     ap (begun text) r
 
 -- A VERDICT THAT IS NO REFUSAL
-abbrev passing : Verdict → Bool
+abbrev pub passing : Verdict → Bool
 passing (proved n) = true
 passing (refuted n) = true
 passing (refused k n) = false
 
-not-refused : (v : Verdict) (k n : ℕ) → passing v ≡ true → v ≡ refused k n → ⊥
+pub not-refused : (v : Verdict) (k n : ℕ) → passing v ≡ true → v ≡ refused k n → ⊥
 not-refused v k n h e = clash (passing v) h (ap passing e)
 
 record Accepted (room : ℕ) (text : List ℕ) (v : Verdict) : Type 0 where
@@ -114,11 +114,11 @@ module _ {A : Type 0} (p : A → Bool) where
       go false e f k = (e, f (omega arith))
 
 -- left claims true and right claims false: none is good
-against-bad : (T : Table) (I : Interp) (s : Sided) → Against T I s → good T I s ≡ false
+pub against-bad : (T : Table) (I : Interp) (s : Sided) → Against T I s → good T I s ≡ false
 against-bad T I (left c) h = ap not h
 against-bad T I (right c) h = h
 
-bad-against : (T : Table) (I : Interp) (s : Sided) → good T I s ≡ false → Against T I s
+pub bad-against : (T : Table) (I : Interp) (s : Sided) → good T I s ≡ false → Against T I s
 bad-against T I (left c) h = not-false (truth T I c) h
 bad-against T I (right c) h = h
 

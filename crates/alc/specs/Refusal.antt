@@ -2,20 +2,22 @@
 -- which the verdict is proved to be.
 -- Assumes nothing.
 use Prim.Native.Nat.{ℕ, suc, _+_, _≤_, _<_}
-use mathlib.Core.Bool.{Bool, true, false, cond}
+use mathlib.Core.Bool.{Bool, true, false, not, cond}
 use mathlib.Core.List.{List, [], _∷_, _++_}
 use mathlib.Core.Path.{_≡_}
 use lib.Dec.{eqb}
 use lib.ListN.{length}
 use Rattle.lines.specs.Text.{linesOf}
 use Rattle.lines.specs.declared.Item.{Item}
-use Rattle.alc.specs.Lists.{All}
+use Rattle.alc.specs.Lists.{All, isEmpty}
 use Rattle.alc.specs.Rows.{Row, row}
 use Rattle.alc.specs.Table.{Table}
-use Rattle.alc.specs.Claims.{Sided, Goal, good}
-use Rattle.alc.specs.Model.{Fact, interpOf, allPlaced}
+use Rattle.alc.specs.Meaning.{Interp}
+use Rattle.alc.specs.Claims.{Sided, good}
+use Rattle.alc.specs.Model.{interpOf, allPlaced}
 use Rattle.alc.specs.Dossier.{Said, saidAt}
-use Rattle.alc.specs.Verdict.{State, state, table, claims, steps, start, facts, place, begin, rows, after}
+use Rattle.alc.specs.Verdict.{Part, table, claims, steps, start, facts, State, place, begin, rows, after}
+use Rattle.alc.specs.Accepts.{Against}
 
 -- the numbers of a line's rows, in the order of the table
 abbrev pub order : List ℕ
@@ -58,9 +60,31 @@ pub record BadLine (S : State) (is : List Item) (k m : ℕ) : Type 0 where
   pub count : m ≡ length before
 
 -- the end comes with no `proof` or `model`, a goal open, no `size`, or a claim's name unplaced
-pub data Unfinished : State → Type 0 where
-  no-turn : {T : Table} {cs : List Sided} → {n : ℕ} {gs : List Goal} {k : ℕ} {fs : List Fact} → Unfinished (state table T cs n gs k fs)
-  no-turn-yet : {T : Table} {cs : List Sided} → {n : ℕ} {gs : List Goal} {k : ℕ} {fs : List Fact} → Unfinished (state claims T cs n gs k fs)
-  open-goal : {T : Table} {cs : List Sided} → {n : ℕ} {g : Goal} {gs : List Goal} {k : ℕ} {fs : List Fact} → Unfinished (state steps T cs n (g ∷ gs) k fs)
-  no-size : {T : Table} {cs : List Sided} → {n : ℕ} {gs : List Goal} {k : ℕ} {fs : List Fact} → Unfinished (state start T cs n gs k fs)
-  unplaced : {T : Table} {cs : List Sided} → {n : ℕ} {gs : List Goal} {k : ℕ} {fs : List Fact} → allPlaced fs cs ≡ false → Unfinished (state facts T cs n gs k fs)
+abbrev pub unfinishedIn : Part → State → Bool
+unfinishedIn table S = true
+unfinishedIn claims S = true
+unfinishedIn steps S = not (isEmpty (S .goals))
+unfinishedIn start S = true
+unfinishedIn facts S = not (allPlaced (S .facts) (S .claims))
+
+abbrev pub unfinished : State → Bool
+unfinished S = unfinishedIn (S .part) S
+
+-- the first claim that the interpretation gets wrong, a left claim false or a right claim true; m claims stand before it
+pub record FirstWrong (T : Table) (I : Interp) (cs : List Sided) (m : ℕ) : Type 0 where
+  pub before : List Sided
+  pub wrong : Sided
+  pub behind : List Sided
+  pub claims : cs ≡ before ++ (wrong ∷ behind)
+  pub right : All (Against T I) before
+  pub good : good T I wrong ≡ true
+  pub count : m ≡ length before
+
+-- the refusals of a text with a lent room of so many records: number and line
+pub data Refuses (room : ℕ) (text : List ℕ) : ℕ → ℕ → Type 0 where
+  narrow : room < 1088 → Refuses room text 14 0
+  long : 1088 ≤ room → 65535 < length text → Refuses room text 1 0
+  at-line : {k m : ℕ} → 1088 ≤ room → length text ≤ 65535 → BadLine begin (linesOf text) k m → Refuses room text k (suc m)
+  at-end : {E : State} → 1088 ≤ room → length text ≤ 65535 → Passes begin (linesOf text) E → unfinished E ≡ true → Refuses room text 12 (suc (length (linesOf text)))
+  by-model : {E : State} {m : ℕ} → 1088 ≤ room → length text ≤ 65535 → Passes begin (linesOf text) E → E .part ≡ facts → unfinished E ≡ false
+      → FirstWrong (E .table) (interpOf (E .size) (E .facts)) (E .claims) m → Refuses room text 13 (suc (length (E .table) + m))
