@@ -61,9 +61,10 @@ module _ (T : Table) where
       let p = split ps gs 0 (works-derives w) in
       subst (λ z. Derives T 0 (s ∷ z) (g ∷ gs)) (sym (p .steps)) (by r k (omega (arith, length-append ps gs)) (p .front) (p .back))
 
-  -- what is derived holds everywhere
+  -- each rule is sound, and so what is derived holds everywhere
+  pub rule-sound : WellFormed T → {g : Goal} {s : Step} {ps : List Goal} → Rule T g s ps → All (Valid T) ps → Valid T g
+  rule-sound wf {g} {s} r v = let f = fits-of T g r in step-sound T s (plan-sound T wf s) g (f .0) (rw (f .1) at v)
+
   pub derives-valid : WellFormed T → {w : ℕ} {ss : List Step} {gs : List Goal} → Derives T w ss gs → All (Valid T) gs
   derives-valid wf none = tt
-  derives-valid wf (by {s = s} {g = g} r k l d e) =
-      let f = fits-of T g r in
-      (step-sound T s (plan-sound T wf s) g (f .0) (rw (f .1) at (derives-valid wf d)), derives-valid wf e)
+  derives-valid wf (by r k l d e) = (rule-sound wf r (derives-valid wf d), derives-valid wf e)

@@ -1,28 +1,25 @@
 -- What has been read, whatever lines were read: the table, the claims, the steps or the model of the state are those of the lines, and they are of
 -- the form. True before the first line, and each line that passes its rows keeps it so.
 -- Assumes nothing.
-use Prim.Native.Nat.{ℕ, suc, _+_, _≤_, _<_}
+use Prim.Native.Nat.{ℕ, suc, _≤_}
 use native.Mathlib.Omega.{arith}
-use mathlib.Core.Bool.{Bool, true, false, not, _&&_, false≢true}
+use mathlib.Core.Bool.{true, false, _&&_, false≢true}
 use mathlib.Core.List.{List, [], _∷_, _++_, map, append-nil, append-assoc}
-use mathlib.Core.Path.{_≡_, refl, sym, ap, subst, _∙_}
+use mathlib.Core.Path.{_≡_, refl, ap}
 use lib.Dec.{ltb, leb}
 use lib.ListN.{length, length-append}
 use lib.Seq.{append-snoc}
 use borrow.Author.Tests.{leb-true, ltb-true, not-true}
-use Rattle.alc.specs.Lists.{All, every}
-use Rattle.alc.specs.Ranges.{inRange}
-use Rattle.alc.specs.Table.{Table, Entry, stands, entryFields}
+use Rattle.alc.specs.Table.{Table, stands, entryFields}
 use Rattle.alc.specs.Claims as Claims
 use Rattle.alc.specs.Claims.{Sided, Goal, claimFields}
-use Rattle.alc.specs.Rules.{Step, stepFields, plan}
+use Rattle.alc.specs.Rules.{Step, plan}
 use Rattle.alc.specs.Goals.{premises, stepRows, goalsAfter}
-use Rattle.alc.specs.Model.{Fact, factFields, repeats}
+use Rattle.alc.specs.Model.{Fact, repeats}
 use Rattle.alc.specs.Dossier.{Said, concept, claim, proof, model, step, size, fact}
-use Rattle.alc.specs.Verdict.{Part, table, claims, steps, start, facts, State, state, begin, rows, after}
+use Rattle.alc.specs.Verdict.{table, claims, steps, start, facts, State, state, begin, rows, after}
 use Rattle.alc.specs.Reading.{InTurn, InRange, GoodTable, GoodClaims, GoodSteps, GoodModel}
 use Rattle.alc.specs.Refusal.{AllPassed}
-use Rattle.alc.specs.Slide.{Rule}
 use Rattle.alc.proofs.Logic.{and-true}
 use Rattle.alc.proofs.ListFacts.{All-map, All-append, every-All}
 use Rattle.alc.proofs.Slides.{rule-of}

@@ -14,3 +14,5 @@ pub mod Heard
 pub mod Verdicts
 pub mod Meant
 pub mod Refusals
+pub mod NotNew
+pub mod Theorems

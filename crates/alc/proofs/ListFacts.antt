@@ -1,16 +1,15 @@
 -- Facts of lists of claims, once for all rules: what holds of every claim of a goal holds of the claims needed, which stand in it, and of
 -- what is left of it, since dropping only takes out.
 -- Assumes nothing.
-use Prim.Native.Nat.{ℕ}
 use native.Mathlib.Decide.{ℕ-discrete}
-use mathlib.Core.Bool.{Bool, true, false, not, cond, _&&_, _||_, decide, decide-iff, false≢true}
+use mathlib.Core.Bool.{Bool, true, false, cond, decide-iff, false≢true}
 use mathlib.Core.List.{List, [], _∷_, _++_}
-use mathlib.Core.Logic.{_⊎_, inl, inr, ⊎-elim}
-use mathlib.Core.Path.{_≡_, refl, sym, ap, subst}
+use mathlib.Core.Logic.{⊎-elim}
+use mathlib.Core.Path.{_≡_, refl, sym, subst}
 use Rattle.alc.specs.Lists.{All, every, any}
 use Rattle.alc.specs.Claims.{Sided, Sided-discrete, Claim-discrete, Goal, same, has, without}
 use Rattle.alc.specs.Goals.{rest}
-use Rattle.alc.proofs.Logic.{and-true, or-true, or-false, clash}
+use Rattle.alc.proofs.Logic.{and-true, or-true, or-false}
 
 module _ {A : Type 0} where
   pub All-map : {P Q : A → Type 0} → ((x : A) → P x → Q x) → (l : List A) → All P l → All Q l

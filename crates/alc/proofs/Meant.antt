@@ -1,30 +1,30 @@
 -- What a passing verdict means. A derivation proves its goal, rule by rule; a model is an interpretation in which the sequent fails; so no sequent has
 -- both. The lines of a text say its table and claims, so these are the same however the text is read.
 -- Assumes nothing.
-use Prim.Native.Nat.{ℕ, zero, suc, _≤_, _<_}
+use Prim.Native.Nat.{ℕ, _≤_, _<_}
 use native.Mathlib.Omega.{arith}
 use mathlib.Core.Bool.{Bool, true, false, cond, _&&_}
 use mathlib.Core.List.{List, [], _∷_, _++_, map, tail-eq-of-cons-eq, head-eq-of-cons-eq}
 use mathlib.Core.Logic.{_≢_}
-use mathlib.Core.Path.{_≡_, refl, sym, ap, ap₂, subst, _∙_}
+use mathlib.Core.Path.{_≡_, refl, sym, ap, ap₂, _∙_}
 use lib.Dec.{eqb, ltb}
 use lib.ListN.{getD}
 use borrow.Author.Tests.{ltb-true}
-use Rattle.alc.specs.Lists.{All, every}
-use Rattle.alc.specs.Ranges.{inRange}
+use Rattle.alc.specs.Lists.{All}
 use Rattle.alc.specs.Meaning.{Interp, Placed}
-use Rattle.alc.specs.Table.{Table, Entry}
+use Rattle.alc.specs.Table.{Table}
 use Rattle.alc.specs.Claims.{Sided, Goal, holds, Valid}
 use Rattle.alc.specs.Rules.{Step}
 use Rattle.alc.specs.Model.{Fact, places, has, edge, factFields, placesOf, placesIn, interpOf}
-use Rattle.alc.specs.Dossier.{Said, concept, claim, proof, model, step, size, fact, unread, saidBy}
+use Rattle.alc.specs.Dossier.{Said, concept, claim, proof, model, step, size, fact, unread}
 use Rattle.alc.specs.Verdict.{proved, refuted, verdict}
+use Rattle.alc.specs.Slide.{Rule}
 use Rattle.alc.specs.Derivation.{Derives}
 use Rattle.alc.specs.Reading.{InRange, GoodTable, GoodModel, ReadsProof, ReadsModel}
-use Rattle.alc.specs.Accepts.{Proves, Falsifies}
 use Rattle.alc.proofs.Logic.{and-true, clash}
 use Rattle.alc.proofs.ListFacts.{All-append}
 use Rattle.alc.proofs.Trees.{well-formed}
+use Rattle.alc.proofs.Derive
 use Rattle.alc.proofs.Derive.{derives-valid}
 use Rattle.alc.proofs.Verdicts.{proved-iff, refuted-iff, against-fails}
 
@@ -76,6 +76,9 @@ one-model {T = T} {U} {cs} {ds} {n} {k} {fs} {es} p q =
     same-reading T U cs ds (model ∷ size n ∷ map fact fs) (model ∷ size k ∷ map fact es) (omega arith) (omega arith) (sym (p .lines) ∙ q .lines)
 
 -- PROVED
+pub rule-sound : (T : Table) → GoodTable T → (g : Goal) (s : Step) (ps : List Goal) → Rule T g s ps → All (Valid T) ps → Valid T g
+rule-sound T t g s ps r v = Derive.rule-sound T (well-formed T t) r v
+
 pub derived-valid : (T : Table) (cs : List Sided) (ss : List Step) → GoodTable T → Derives T 0 ss (cs ∷ []) → Valid T cs
 derived-valid T cs ss t d = derives-valid T (well-formed T t) d .0
 

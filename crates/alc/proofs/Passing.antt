@@ -4,20 +4,21 @@
 use Prim.Native.Nat.{ℕ, zero, suc, _+_, _<_}
 use native.Mathlib.Omega.{arith}
 use native.Mathlib.Nat.{add-zero}
-use mathlib.Core.Bool.{Bool, true, false, cond, _&&_}
+use mathlib.Core.Bool.{Bool, true, false, cond, false≢true}
+use mathlib.Core.Logic.{⊎-elim}
 use mathlib.Core.List.{List, [], _∷_, _++_, map, append-nil}
 use mathlib.Core.Path.{_≡_, refl, sym, ap, _∙_}
-use lib.Dec.{ltb}
+use lib.Dec.{ltb, eqb}
 use lib.ListN.{length}
-use borrow.Author.Tests.{ltb-true}
+use borrow.Author.Tests.{ltb-true, eqb-true, eq-eqb}
 use Rattle.lines.specs.declared.Item.{Item}
-use Rattle.alc.specs.Lists.{All, every}
+use Rattle.alc.specs.Lists.{every, elem}
 use Rattle.alc.specs.Rows.{Row, row, refusal}
 use Rattle.alc.specs.Goals.{stepRows}
 use Rattle.alc.specs.Dossier.{Said, concept, claim, proof, model, step, size, fact, unread}
 use Rattle.alc.specs.Verdict.{Verdict, refused, State, rows, after, ending, judge}
 use Rattle.alc.specs.Refusal.{AllPassed, First, here, later, said, Passes, none, line, BadLine, order, within}
-use Rattle.alc.proofs.Logic.{and-true}
+use Rattle.alc.proofs.Logic.{and-true, or-true, or-left, or-right}
 
 -- THE ROWS OF A LINE
 -- a line's rows stand in the order of the table
@@ -31,6 +32,25 @@ in-order S (step s) = refl
 in-order S (size n) = refl
 in-order S (fact f) = refl
 in-order S unread = refl
+
+-- so each number is one of the table's
+within-has : (l m : List ℕ) → within l m ≡ true → (k : ℕ) → elem k l ≡ true → elem k m ≡ true
+within-has [] m h k e = absurd (false≢true e)
+within-has (a ∷ l) [] h k e = absurd (false≢true h)
+within-has (a ∷ l) (b ∷ m) h k e = go (eqb a b) refl (λ u v. within-has l m u k v) (λ u. within-has (a ∷ l) m u k e) h
+  where
+    go : (t : Bool) → eqb a b ≡ t → (within l m ≡ true → elem k l ≡ true → elem k m ≡ true) → (within (a ∷ l) m ≡ true → elem k m ≡ true)
+        → cond t (within l m) (within (a ∷ l) m) ≡ true → elem k (b ∷ m) ≡ true
+    go true q f g u =
+        ⊎-elim (λ v. or-left (eqb k b) (elem k m) (rw (eqb-true a b q) at v)) (λ v. or-right (eqb k b) (elem k m) (f u v)) (or-true (eqb k a) (elem k l) e)
+    go false q f g u = or-right (eqb k b) (elem k m) (g u)
+
+first-has : {k : ℕ} {rs : List Row} → First k rs → elem k (map (λ r. r .number) rs) ≡ true
+first-has {k} (here {rs}) = rw (eq-eqb k k refl)
+first-has {k} (later {j} {rs} f) = or-right (eqb k j) (elem k (map (λ r. r .number) rs)) (first-has f)
+
+pub line-number : (S : State) (s : Said) (k : ℕ) → First k (rows S s) → elem k order ≡ true
+line-number S s k f = within-has (map (λ r. r .number) (rows S s)) order (in-order S s) k (first-has f)
 
 -- no row has number 0
 pub numbered : (S : State) (s : Said) → every (λ r. ltb 0 (r .number)) (rows S s) ≡ true

@@ -4,24 +4,21 @@
 use Prim.Native.Nat.{ℕ, zero, suc, _+_, _≤_, _<_}
 use native.Mathlib.Omega.{arith}
 use native.Mathlib.Nat.{zero-add}
-use mathlib.Core.Bool.{Bool, true, false, not, cond, _&&_}
+use mathlib.Core.Bool.{Bool, true, false, not, cond}
 use mathlib.Core.List.{List, [], _∷_, _++_}
 use mathlib.Core.Logic.{_↔_}
 use mathlib.Core.Path.{_≡_, refl, sym, ap, ap₂, subst, _∙_}
-use lib.Dec.{ltb, leb}
+use lib.Dec.{ltb}
 use lib.ListN.{length, length-append}
-use borrow.Author.Tests.{lt-leb, le-leb, ltb-true, lt-ltb, not-true}
+use borrow.Author.Tests.{ltb-true, lt-ltb, not-true}
 use Rattle.lines.specs.Text.{linesOf}
-use Rattle.lines.specs.declared.Item.{Item}
 use Rattle.alc.specs.Lists.{All, isEmpty, firstAt}
 use Rattle.alc.specs.Meaning.{Interp}
 use Rattle.alc.specs.Table.{Table}
 use Rattle.alc.specs.Claims.{Sided, good}
 use Rattle.alc.specs.Model.{interpOf, allPlaced}
-use Rattle.alc.specs.Verdict.{Verdict, proved, refuted, refused, number, line, Part, table, claims, steps, start, facts, State, begin, endIn, ending, judge, verdict}
-use Rattle.alc.specs.Accepts.{Against}
-use Rattle.alc.specs.Refusal.{BadLine, said, Passes, unfinishedIn, unfinished, FirstWrong, Refuses, narrow, long, at-line, at-end, by-model}
-use Rattle.alc.proofs.Logic.{clash}
+use Rattle.alc.specs.Verdict.{proved, refuted, refused, number, line, Part, table, claims, steps, start, facts, State, begin, endIn, ending, verdict}
+use Rattle.alc.specs.Refusal.{said, Passes, unfinishedIn, unfinished, FirstWrong, Refuses, narrow, long, at-line, at-end, by-model}
 use Rattle.alc.proofs.ListFacts.{All-map}
 use Rattle.alc.proofs.Passing.{numbered, first-positive, passes-ending, bad-refused, Judged, through, stopped, judged}
 use Rattle.alc.proofs.Verdicts.{not-refused, Outer, outer, verdict-judge, against-bad, bad-against}

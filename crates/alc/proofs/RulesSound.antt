@@ -1,24 +1,22 @@
 -- Each of the nineteen plans is sound: by the law of the table a claim of a line says what the rule says of the line's parts. A new name is put
 -- at the element that `some`, `all` or `sub` gives.
 -- Assumes nothing.
-use Prim.Native.Nat.{ℕ, zero, suc, _<_}
-use mathlib.Core.Bool.{Bool, true, false, not, cond, _&&_, _||_, false≢true, true≢false}
+use Prim.Native.Nat.{ℕ, _<_}
+use mathlib.Core.Bool.{Bool, true, false, not, cond, false≢true, true≢false}
 use mathlib.Core.List.{List, [], _∷_}
-use mathlib.Core.Logic.{_⊎_, inl, inr, ⊎-elim}
-use mathlib.Core.Path.{_≡_, refl, sym, ap, ap₂, subst, _∙_}
-use lib.Dec.{eqb}
+use mathlib.Core.Logic.{inl, inr, ⊎-elim}
+use mathlib.Core.Path.{_≡_, refl, sym, ap, ap₂, _∙_}
 use borrow.Author.Tests.{not-true, not-false, eq-eqb}
-use Rattle.alc.specs.Lists.{All, every, any, elem}
-use Rattle.alc.specs.Meaning.{World, Interp, Placed, member}
-use Rattle.alc.specs.Table.{Table, Kind, entry, isA, shape, treeOf, WellFormed}
-use Rattle.alc.specs.Claims.{Claim, is, sub, link, Sided, left, right, truth, good}
+use Rattle.alc.specs.Lists.{All, elem}
+use Rattle.alc.specs.Meaning.{Interp, Placed, member}
+use Rattle.alc.specs.Table.{Table, Kind, isA, shape, treeOf, WellFormed}
+use Rattle.alc.specs.Claims.{is, sub, link, Sided, left, right, truth}
 use Rattle.alc.specs.Rules
-use Rattle.alc.specs.Rules.{Step, Plan, plan, first, second, roleOf, inner}
+use Rattle.alc.specs.Rules.{Step, plan, first, second, roleOf, inner}
 use Rattle.alc.specs.Goals.{avoids}
 use Rattle.alc.proofs.Logic.{and-true, and-false, or-true, or-false, if-true, if-false, clash, some-true, some-false, every-true, every-false}
-use Rattle.alc.proofs.ListFacts.{every-All}
 use Rattle.alc.proofs.Trees.{law-at}
-use Rattle.alc.proofs.Sound.{Bad, moved, Refutes, Open, Sound}
+use Rattle.alc.proofs.Sound.{Bad, moved, Refutes, Sound}
 
 -- the placing, with name b at element e
 abbrev put : (ℕ → ℕ) → ℕ → ℕ → ℕ → ℕ

@@ -4,24 +4,23 @@
 use Prim.Native.Nat.{ℕ, suc, _+_, _≤_, _<_}
 use native.Mathlib.Omega.{arith}
 use native.Mathlib.Nat.{add-zero, zero-add}
-use mathlib.Core.Bool.{Bool, true, false, not, cond, _&&_, false≢true}
+use mathlib.Core.Bool.{Bool, true, false, not, cond, false≢true}
 use mathlib.Core.List.{List, [], _∷_, _++_, map, append-nil}
 use mathlib.Core.Path.{_≡_, refl, sym, ap, subst, _∙_}
-use lib.Dec.{ltb, leb}
+use lib.Dec.{leb}
 use lib.ListN.{length, length-append}
 use lib.Seq.{append-snoc}
-use borrow.Author.Tests.{leb-true, le-leb, lt-ltb}
+use borrow.Author.Tests.{le-leb, lt-ltb}
 use Rattle.lines.specs.declared.Item.{Item}
-use Rattle.alc.specs.Lists.{All, every}
-use Rattle.alc.specs.Ranges.{inRange}
-use Rattle.alc.specs.Table.{Table, Entry, stands, entryFields}
+use Rattle.alc.specs.Lists.{All}
+use Rattle.alc.specs.Table.{Table, stands, entryFields}
 use Rattle.alc.specs.Claims as Claims
 use Rattle.alc.specs.Claims.{Sided, Goal, claimFields}
 use Rattle.alc.specs.Rules.{Step, stepFields, plan}
 use Rattle.alc.specs.Goals.{premises, stepRows, goalsAfter}
 use Rattle.alc.specs.Model.{Fact, factFields, repeats}
 use Rattle.alc.specs.Dossier.{Said, concept, claim, proof, model, step, size, fact, unread, saidBy}
-use Rattle.alc.specs.Verdict.{Part, table, claims, steps, start, facts, State, state, begin, rows, after}
+use Rattle.alc.specs.Verdict.{Part, table, claims, steps, facts, State, state, begin, rows, after}
 use Rattle.alc.specs.Reading.{InTurn, InRange, GoodTable, GoodClaims, GoodSteps, GoodModel}
 use Rattle.alc.specs.Refusal.{AllPassed, said, Passes, none, line}
 use Rattle.alc.specs.Slide.{Rule}

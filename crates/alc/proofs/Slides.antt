@@ -2,15 +2,15 @@
 -- name the same entry, claims, new name and premises.
 -- Assumes nothing.
 use Prim.Native.Nat.{ℕ}
-use mathlib.Core.Bool.{Bool, true, false, not, _||_}
+use mathlib.Core.Bool.{true, false, not}
 use mathlib.Core.List.{List, [], _∷_}
-use mathlib.Core.Logic.{_≢_}
-use mathlib.Core.Path.{_≡_, refl}
+use mathlib.Core.Logic.{_≢_, _↔_}
+use mathlib.Core.Path.{_≡_, refl, sym, subst}
 use lib.Dec.{eqb}
 use borrow.Author.Tests.{eqb-false, ne-eqb, not-true}
 use Rattle.alc.specs.Lists.{All, every, elem}
 use Rattle.alc.specs.Table.{Table}
-use Rattle.alc.specs.Claims.{Claim, is, sub, link, Sided, Goal, names, claim, has}
+use Rattle.alc.specs.Claims.{Claim, is, sub, link, Goal, names, claim, has}
 use Rattle.alc.specs.Rules
 use Rattle.alc.specs.Rules.{Step, plan}
 use Rattle.alc.specs.Goals.{avoids, areNew, premises}
@@ -106,3 +106,13 @@ module _ (T : Table) (g : Goal) where
   fits-of (Slide.some-r a i b k m n) = of (Rules.some-r a i b) k (m, (n, tt)) (none-new g)
   fits-of (Slide.all-l a i b k m n) = of (Rules.all-l a i b) k (m, (n, tt)) (none-new g)
   fits-of (Slide.all-r a i b k m w) = of (Rules.all-r a i b) k (m, tt) (is-new b g w)
+
+pub row-is-rule : (T : Table) (g : Goal) (s : Step) (ps : List Goal)
+    → ((plan T s .asks ≡ true) × (every (has g) (plan T s .needs) ≡ true) × (areNew (plan T s .news) g ≡ true) × (ps ≡ premises (plan T s) g)) ↔ Rule T g s ps
+row-is-rule T g s ps = (there, back)
+  where
+    there : (plan T s .asks ≡ true) × (every (has g) (plan T s .needs) ≡ true) × (areNew (plan T s .news) g ≡ true) × (ps ≡ premises (plan T s) g) → Rule T g s ps
+    there h = subst (Rule T g s) (sym (h .3)) (rule-of T g s (record { asks = h .0; needs = h .1; news = h .2 }))
+
+    back : Rule T g s ps → (plan T s .asks ≡ true) × (every (has g) (plan T s .needs) ≡ true) × (areNew (plan T s .news) g ≡ true) × (ps ≡ premises (plan T s) g)
+    back r = let f = fits-of T g r in (f .0 .asks, f .0 .needs, f .0 .news, f .1)

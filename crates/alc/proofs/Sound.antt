@@ -9,7 +9,7 @@ use mathlib.Core.Logic.{_⊎_, inl, inr}
 use mathlib.Core.Path.{_≡_, refl, ap, ap₂, _∙_}
 use borrow.Author.Tests.{not-true}
 use Rattle.alc.specs.Lists.{All, every, elem, distinct}
-use Rattle.alc.specs.Meaning.{World, Interp, Placed, member}
+use Rattle.alc.specs.Meaning.{Interp, Placed, member}
 use Rattle.alc.specs.Table.{Table, treeOf}
 use Rattle.alc.specs.Claims.{Claim, is, sub, link, Sided, left, right, Goal, names, has, truth, good, holds, Valid}
 use Rattle.alc.specs.Rules.{Step, Plan, plan}

@@ -1,20 +1,18 @@
 -- The law of the table: the tree of a line is grown from the trees of its parts. A part's number is smaller, so a tree taken deeper is the same.
 -- Assumes nothing.
-use Prim.Native.Nat.{ℕ, zero, suc, _+_, _≤_, _<_}
+use Prim.Native.Nat.{ℕ, zero, suc, _+_, _<_}
 use native.Mathlib.Omega.{arith}
 use native.Mathlib.Nat.{not-suc-le-zero}
-use mathlib.Core.Path.{_≡_, refl, sym, ap, ap₂, _∙_}
-use mathlib.Core.Bool.{Bool, true, decide-iff}
+use mathlib.Core.Path.{_≡_, refl, ap, ap₂}
+use mathlib.Core.Bool.{true, decide-iff}
 use mathlib.Core.List.{List, [], _∷_, _++_}
 use lib.ListN.{length, length-append}
 use native.Mathlib.Nat.{add-zero, zero-add}
-use lib.Dec.{ltb}
 use borrow.Author.Tests.{ltb-true}
-use Rattle.alc.specs.Lists.{All, every}
+use Rattle.alc.specs.Lists.{All}
 use Rattle.alc.proofs.ListFacts.{All-map, every-All}
-use Rattle.alc.proofs.Logic.{and-true}
 use Rattle.alc.specs.Meaning.{Tree}
-use Rattle.alc.specs.Table.{Table, Entry, Kind, Kind-discrete, entry, isA, fieldsBy, entryFields, shape, grow, parts, treeTo, treeOf, WellFormed}
+use Rattle.alc.specs.Table.{Table, Kind, Kind-discrete, entry, isA, fieldsBy, entryFields, shape, grow, parts, treeTo, treeOf, WellFormed}
 use Rattle.alc.specs.Ranges.{Field, role, atom, name, element, size, concept, inRange, concepts}
 use Rattle.alc.specs.Reading.{InTurn, InRange, GoodTable}
 

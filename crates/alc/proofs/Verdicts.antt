@@ -4,32 +4,27 @@
 use Prim.Native.Nat.{ℕ, zero, suc, _+_, _≤_, _<_}
 use native.Mathlib.Omega.{arith}
 use native.Mathlib.Nat.{zero-add}
-use mathlib.Core.Bool.{Bool, true, false, not, cond, _||_, false≢true}
-use mathlib.Core.List.{List, [], _∷_, _++_, map}
+use mathlib.Core.Bool.{Bool, true, false, not, cond}
+use mathlib.Core.List.{List, [], _∷_, map}
 use mathlib.Core.Logic.{_↔_}
 use mathlib.Core.Path.{_≡_, refl, sym, ap, ap₂, subst, _∙_}
 use lib.Dec.{ltb, leb}
 use lib.ListN.{length}
 use borrow.Author.Tests.{leb-true, leb-false, le-leb, ltb-false, le-ltb, not-false}
 use Rattle.lines.specs.Text.{linesOf}
-use Rattle.lines.specs.declared.Item.{Item}
-use Rattle.alc.specs.Lists.{All, any, firstAt}
+use Rattle.alc.specs.Lists.{All, firstAt}
 use Rattle.alc.specs.Rows.{refusal}
 use Rattle.alc.specs.Meaning.{Interp}
 use Rattle.alc.specs.Table.{Table}
-use Rattle.alc.specs.Claims.{Sided, left, right, Goal, truth, good, holds}
-use Rattle.alc.specs.Rules.{Step}
-use Rattle.alc.specs.Model.{Fact, interpOf, allPlaced}
+use Rattle.alc.specs.Claims.{Sided, left, right, truth, good, holds}
+use Rattle.alc.specs.Model.{interpOf, allPlaced}
 use Rattle.alc.specs.Dossier.{Said, saidBy}
-use Rattle.alc.specs.Verdict.{Verdict, proved, refuted, refused, State, state, facts, begin, modelled, ending, judge, verdict, outerRows}
-use Rattle.alc.specs.Derivation.{Derives}
-use Rattle.alc.specs.Reading.{ReadsProof, ReadsModel}
+use Rattle.alc.specs.Verdict.{Verdict, proved, refuted, refused, State, facts, begin, ending, judge, verdict, outerRows}
 use Rattle.alc.specs.Accepts.{Proves, Against, Falsifies}
-use Rattle.alc.specs.Refusal.{Passes}
-use Rattle.alc.proofs.Logic.{clash, or-true}
+use Rattle.alc.proofs.Logic.{clash}
 use Rattle.alc.proofs.ListFacts.{All-map, any-All, All-none}
 use Rattle.alc.proofs.Derive.{derives-works, works-derives}
-use Rattle.alc.proofs.Passing.{judge-passes, passes-ending, bad-refused, Judged, through, stopped, judged}
+use Rattle.alc.proofs.Passing.{passes-ending, bad-refused, Judged, through, stopped, judged}
 use Rattle.alc.proofs.Runs.{Run, passes-run, run-passes, proof-run, model-run}
 use Rattle.alc.proofs.Heard.{Heard, in-table, in-claims, in-steps, in-start, in-facts, heard}
 

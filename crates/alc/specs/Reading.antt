@@ -2,19 +2,19 @@
 -- state of the judge is named here.
 -- Assumes nothing.
 use Prim.Native.Nat.{ℕ, _≤_}
-use mathlib.Core.Bool.{Bool, true, false}
+use mathlib.Core.Bool.{true, false}
 use mathlib.Core.List.{List, [], _∷_, _++_, map}
 use mathlib.Core.Path.{_≡_}
 use lib.ListN.{length}
 use Rattle.lines.specs.Text.{linesOf}
 use Rattle.alc.specs.Lists.{All, every}
 use Rattle.alc.specs.Ranges.{Field, inRange}
-use Rattle.alc.specs.Table.{Table, Entry, stands, entryFields}
+use Rattle.alc.specs.Table.{Table, stands, entryFields}
 use Rattle.alc.specs.Claims.{Sided, claimFields}
 use Rattle.alc.specs.Claims as Claims
 use Rattle.alc.specs.Rules.{Step, stepFields}
 use Rattle.alc.specs.Model.{Fact, factFields, repeats}
-use Rattle.alc.specs.Dossier.{Said, concept, claim, proof, model, step, size, fact, saidBy}
+use Rattle.alc.specs.Dossier.{concept, claim, proof, model, step, size, fact, saidBy}
 
 module _ {A : Type 0} where
   -- P holds of each element and the elements before it
