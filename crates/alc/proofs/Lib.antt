@@ -11,8 +11,9 @@ pub mod Passing
 pub mod Places
 pub mod Runs
 pub mod Heard
+pub mod Ending
 pub mod Verdicts
 pub mod Meant
-pub mod Refusals
 pub mod NotNew
+pub mod Numbered
 pub mod Theorems

@@ -26,7 +26,8 @@ use Rattle.alc.proofs.ListFacts.{All-append}
 use Rattle.alc.proofs.Trees.{well-formed}
 use Rattle.alc.proofs.Derive
 use Rattle.alc.proofs.Derive.{derives-valid}
-use Rattle.alc.proofs.Verdicts.{proved-iff, refuted-iff, against-fails}
+use Rattle.alc.proofs.Ending.{against-fails}
+use Rattle.alc.proofs.Verdicts.{proved-iff, refuted-iff}
 
 -- THE TABLE AND THE CLAIMS OF A TEXT
 abbrev sort : Said → ℕ
@@ -84,7 +85,7 @@ derived-valid T cs ss t d = derives-valid T (well-formed T t) d .0
 
 pub proved-valid : (room n : ℕ) (text : List ℕ) {T : Table} {cs : List Sided} {ss : List Step} → verdict room text ≡ proved n → ReadsProof text T cs ss → Valid T cs
 proved-valid room n text {T} {cs} {ss} e r =
-    let p = proved-iff room n text .0 e .1 in
+    let p = proved-iff room text n .0 e .1 in
     let s = one-proof (p .reads) r in
     rw (s .0, s .1) at (derived-valid (p .table) (p .claims) (p .steps) (p .reads .table) (p .derives))
 
@@ -123,7 +124,7 @@ pub record Fails (T : Table) (cs : List Sided) : Type 0 where
 
 pub refuted-fails : (room n : ℕ) (text : List ℕ) {T : Table} {cs : List Sided} {k : ℕ} {fs : List Fact} → verdict room text ≡ refuted n → ReadsModel text T cs k fs → Fails T cs
 refuted-fails room n text {T} {cs} {k} {fs} e r =
-    let p = refuted-iff room n text .0 e .1 in
+    let p = refuted-iff room text n .0 e .1 in
     let I = interpOf (p .size) (p .facts) in
     let g = p .reads .facts in
     let s = one-model (p .reads) r in

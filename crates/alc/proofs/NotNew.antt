@@ -42,11 +42,12 @@ use Rattle.alc.specs.Known.{text}
 use Rattle.alc.specs.Reading.{InRange, GoodTable, GoodClaims, GoodSteps, ReadsProof, ReadsModel}
 use Rattle.alc.specs.Refusal.{AllPassed, First, here, later, said, BadLine, at-line}
 use Rattle.alc.specs.Slide.{_∋_, _∉_, Is}
+use Rattle.alc.proofs.Logic.{is-false}
 use Rattle.alc.proofs.Slides.{unnamed}
 use Rattle.alc.proofs.Derive.{Works}
 use Rattle.alc.proofs.Places.{fits, at-place}
 use Rattle.alc.proofs.Runs.{run-passes, proof-run, Run}
-use Rattle.alc.proofs.Refusals.{refused-iff}
+use Rattle.alc.proofs.Verdicts.{refused-iff}
 use Rattle.alc.proofs.Meant.{never-both}
 
 -- the rows before it are passed, and it is not
@@ -125,11 +126,6 @@ unfolding stepRows
 not-new T n g gs s l r a h e =
     first-at (row 5 (ltb n 1024) ∷ row 9 true ∷ row 3 _ ∷ row 6 (plan T s .asks) ∷ row 7 (every (has g) (plan T s .needs)) ∷ []) 8 (areNew (plan T s .news) g) _
     (lt-ltb n 1024 l, (refl, (r, (a, (h, tt))))) e
-
--- a test that would say otherwise is false
-is-false : (b : Bool) → (b ≡ true → ⊥) → b ≡ false
-is-false true f = absurd (f refl)
-is-false false f = refl
 
 -- a `some-l` whose name stands in the goal already
 pub some-l-refused : (room : ℕ) (text : List ℕ) (T : Table) (cs : List Sided) (ss : List Step) (g : Goal) (gs : List Goal) (a i b : ℕ) → 1088 ≤ room

@@ -5,20 +5,19 @@ use Prim.Native.Nat.{ℕ, zero, suc, _+_, _<_}
 use native.Mathlib.Omega.{arith}
 use native.Mathlib.Nat.{add-zero}
 use mathlib.Core.Bool.{Bool, true, false, cond, false≢true}
-use mathlib.Core.Logic.{⊎-elim}
 use mathlib.Core.List.{List, [], _∷_, _++_, map, append-nil}
-use mathlib.Core.Path.{_≡_, refl, sym, ap, _∙_}
+use mathlib.Core.Path.{_≡_, refl, sym, ap, subst, _∙_}
 use lib.Dec.{ltb, eqb}
 use lib.ListN.{length}
-use borrow.Author.Tests.{ltb-true, eqb-true, eq-eqb}
+use borrow.Author.Tests.{ltb-true, eqb-true}
 use Rattle.lines.specs.declared.Item.{Item}
-use Rattle.alc.specs.Lists.{every, elem}
+use Rattle.alc.specs.Lists.{All, elem}
 use Rattle.alc.specs.Rows.{Row, row, refusal}
 use Rattle.alc.specs.Goals.{stepRows}
 use Rattle.alc.specs.Dossier.{Said, concept, claim, proof, model, step, size, fact, unread}
 use Rattle.alc.specs.Verdict.{Verdict, refused, State, rows, after, ending, judge}
 use Rattle.alc.specs.Refusal.{AllPassed, First, here, later, said, Passes, none, line, BadLine, order, within}
-use Rattle.alc.proofs.Logic.{and-true, or-true, or-left, or-right}
+use Rattle.alc.proofs.ListFacts.{All-map, every-All}
 
 -- THE ROWS OF A LINE
 -- a line's rows stand in the order of the table
@@ -33,44 +32,35 @@ in-order S (size n) = refl
 in-order S (fact f) = refl
 in-order S unread = refl
 
--- so each number is one of the table's
-within-has : (l m : List ℕ) → within l m ≡ true → (k : ℕ) → elem k l ≡ true → elem k m ≡ true
-within-has [] m h k e = absurd (false≢true e)
-within-has (a ∷ l) [] h k e = absurd (false≢true h)
-within-has (a ∷ l) (b ∷ m) h k e = go (eqb a b) refl (λ u v. within-has l m u k v) (λ u. within-has (a ∷ l) m u k e) h
+-- so what holds of the table's numbers holds of the line's, and of the first row's that is not passed
+within-All : (P : ℕ → Type 0) (l m : List ℕ) → within l m ≡ true → All P m → All P l
+within-All P [] m e h = tt
+within-All P (a ∷ l) [] e h = absurd (false≢true e)
+within-All P (a ∷ l) (b ∷ m) e h = go (eqb a b) refl (λ u. within-All P l m u (h .1)) (λ u. within-All P (a ∷ l) m u (h .1)) e
   where
-    go : (t : Bool) → eqb a b ≡ t → (within l m ≡ true → elem k l ≡ true → elem k m ≡ true) → (within (a ∷ l) m ≡ true → elem k m ≡ true)
-        → cond t (within l m) (within (a ∷ l) m) ≡ true → elem k (b ∷ m) ≡ true
-    go true q f g u =
-        ⊎-elim (λ v. or-left (eqb k b) (elem k m) (rw (eqb-true a b q) at v)) (λ v. or-right (eqb k b) (elem k m) (f u v)) (or-true (eqb k a) (elem k l) e)
-    go false q f g u = or-right (eqb k b) (elem k m) (g u)
+    go : (t : Bool) → eqb a b ≡ t → (within l m ≡ true → All P l) → (within (a ∷ l) m ≡ true → All P (a ∷ l)) → cond t (within l m) (within (a ∷ l) m) ≡ true → All P (a ∷ l)
+    go true q f g u = (subst P (sym (eqb-true a b q)) (h .0), f u)
+    go false q f g u = g u
 
-first-has : {k : ℕ} {rs : List Row} → First k rs → elem k (map (λ r. r .number) rs) ≡ true
-first-has {k} (here {rs}) = rw (eq-eqb k k refl)
-first-has {k} (later {j} {rs} f) = or-right (eqb k j) (elem k (map (λ r. r .number) rs)) (first-has f)
+first-All : (P : ℕ → Type 0) {k : ℕ} {rs : List Row} → First k rs → All P (map (λ r. r .number) rs) → P k
+first-All P here h = h .0
+first-All P (later f) h = first-All P f (h .1)
 
 pub line-number : (S : State) (s : Said) (k : ℕ) → First k (rows S s) → elem k order ≡ true
-line-number S s k f = within-has (map (λ r. r .number) (rows S s)) order (in-order S s) k (first-has f)
+line-number S s k f =
+    first-All (λ n. elem n order ≡ true) f
+    (within-All (λ n. elem n order ≡ true) (map (λ r. r .number) (rows S s)) order (in-order S s) (every-All (λ n. elem n order) order refl))
 
 -- no row has number 0
-pub numbered : (S : State) (s : Said) → every (λ r. ltb 0 (r .number)) (rows S s) ≡ true
-unfolding rows stepRows
-numbered S (concept e) = refl
-numbered S (claim s) = refl
-numbered S proof = refl
-numbered S model = refl
-numbered S (step s) = refl
-numbered S (size n) = refl
-numbered S (fact f) = refl
-numbered S unread = refl
+numbered : (S : State) (s : Said) → All (λ n. 0 < n) (map (λ r. r .number) (rows S s))
+numbered S s = within-All (λ n. 0 < n) (map (λ r. r .number) (rows S s)) order (in-order S s) (All-map (λ n t. ltb-true 0 n t) order (every-All (λ n. ltb 0 n) order refl))
+
+pub line-positive : (S : State) (s : Said) (k : ℕ) → First k (rows S s) → 0 < k
+line-positive S s k f = first-All (λ n. 0 < n) f (numbered S s)
 
 pub first-refusal : {k : ℕ} {rs : List Row} → First k rs → refusal rs ≡ k
 first-refusal here = refl
 first-refusal (later f) = first-refusal f
-
-pub first-positive : {k : ℕ} {rs : List Row} → First k rs → every (λ r. ltb 0 (r .number)) rs ≡ true → 0 < k
-first-positive {k} (here {rs}) e = ltb-true 0 k (and-true (ltb 0 k) (every (λ r. ltb 0 (r .number)) rs) e .0)
-first-positive (later {j} {rs} f) e = first-positive f (and-true (ltb 0 j) (every (λ r. ltb 0 (r .number)) rs) e .1)
 
 pub passed-refusal : (rs : List Row) → AllPassed rs → refusal rs ≡ 0
 passed-refusal [] h = refl
@@ -87,11 +77,9 @@ grade n true rs h (bad k f) = bad k (later f)
 grade zero false rs h g = absurd (omega arith)
 grade (suc n) false rs h g = bad n here
 
-graded : (rs : List Row) → every (λ r. ltb 0 (r .number)) rs ≡ true → Graded rs
-graded [] e = all tt
-graded (r ∷ rs) e =
-    let b = and-true (ltb 0 (r .number)) (every (λ q. ltb 0 (q .number)) rs) e in
-    grade (r .number) (r .passed) rs (ltb-true 0 (r .number) (b .0)) (graded rs (b .1))
+graded : (rs : List Row) → All (λ n. 0 < n) (map (λ r. r .number) rs) → Graded rs
+graded [] h = all tt
+graded (r ∷ rs) h = grade (r .number) (r .passed) rs (h .0) (graded rs (h .1))
 
 -- THE LINES
 -- what the judge does with the first line's rows

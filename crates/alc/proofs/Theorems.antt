@@ -3,13 +3,13 @@
 use Prim.Native.Nat.{ℕ, _≤_, _<_}
 use mathlib.Core.Bool.{true, false}
 use mathlib.Core.List.{List, [], _∷_, map}
-use mathlib.Core.Logic.{_↔_}
+use mathlib.Core.Logic.{_↔_, _≢_}
 use mathlib.Core.Path.{_≡_}
 use lib.ListN.{length}
 use Rattle.lines.specs.Text.{linesOf}
 use Rattle.alc.specs.Lists.{All, every, elem}
 use Rattle.alc.specs.Meaning.{Interp}
-use Rattle.alc.specs.Table.{Table, Kind}
+use Rattle.alc.specs.Table.{Table, Kind, entry, entryFields}
 use Rattle.alc.specs.Claims.{Sided, Goal, is, left, has, holds, Valid}
 use Rattle.alc.specs.Rules
 use Rattle.alc.specs.Rules.{Step, stepFields, plan}
@@ -27,28 +27,29 @@ use Rattle.alc.proofs.Known
 use Rattle.alc.proofs.Slides
 use Rattle.alc.proofs.Passing
 use Rattle.alc.proofs.Verdicts
+use Rattle.alc.proofs.Numbered
 use Rattle.alc.proofs.Meant
 use Rattle.alc.proofs.Meant.{Fails}
-use Rattle.alc.proofs.Refusals
+use Rattle.alc.proofs.Ending
 use Rattle.alc.proofs.NotNew
 use Rattle.alc.proofs.NotNew.{ReadsUpTo, lineOf, giftTable, giftClaims}
 
 -- WHAT THE VERDICTS SAY OF THE TEXT
 -- `proved`, exactly if the room is wide enough, the text reads as a table, claims and steps, and the steps derive the claims; the line is the count of lines
-pub proved-iff : (room n : ℕ) (text : List ℕ) → (verdict room text ≡ proved n) ↔ ((1088 ≤ room) × Proves text × (n ≡ length (linesOf text)))
+pub proved-iff : (room : ℕ) (text : List ℕ) (n : ℕ) → (verdict room text ≡ proved n) ↔ ((1088 ≤ room) × Proves text × (n ≡ length (linesOf text)))
 proved-iff = Verdicts.proved-iff
 
 -- `refuted`, exactly if the room is wide enough, and the text reads as a table, claims and a model with all left claims true, no right claim true, every name in a claim placed
-pub refuted-iff : (room n : ℕ) (text : List ℕ) → (verdict room text ≡ refuted n) ↔ ((1088 ≤ room) × Falsifies text × (n ≡ length (linesOf text)))
+pub refuted-iff : (room : ℕ) (text : List ℕ) (n : ℕ) → (verdict room text ≡ refuted n) ↔ ((1088 ≤ room) × Falsifies text × (n ≡ length (linesOf text)))
 refuted-iff = Verdicts.refuted-iff
 
 -- "all left claims true, no right claim true" is that the sequent does not hold
 pub against-fails : (T : Table) (I : Interp) (cs : List Sided) → All (Against T I) cs ↔ (holds T I cs ≡ false)
-against-fails = Verdicts.against-fails
+against-fails = Ending.against-fails
 
 -- `refused` with number k at line n, exactly if document 01's table says so: 14, then 1, then the first row of the earliest bad line, then 12, then 13
 pub refused-iff : (room : ℕ) (text : List ℕ) (k n : ℕ) → (verdict room text ≡ refused k n) ↔ Refuses room text k n
-refused-iff = Refusals.refused-iff
+refused-iff = Verdicts.refused-iff
 
 -- the rows of a line stand in the order of that table
 pub rows-in-order : (S : State) (s : Said) → within (map (λ r. r .number) (rows S s)) order ≡ true
@@ -80,6 +81,11 @@ refuted-fails = Meant.refuted-fails
 pub never-both : (room₁ room₂ n₁ n₂ : ℕ) (text₁ text₂ : List ℕ) {T : Table} {cs : List Sided} {ss : List Step} {k : ℕ} {fs : List Fact} → ReadsProof text₁ T cs ss
     → ReadsModel text₂ T cs k fs → verdict room₁ text₁ ≡ proved n₁ → verdict room₂ text₂ ≡ refuted n₂ → ⊥
 never-both = Meant.never-both
+
+-- the table, line by line: at most 256 lines, the fields of line i in the range of number i, no two lines equal
+pub table-iff : (T : Table) → GoodTable T
+    ↔ ((length T ≤ 256) × ((i : ℕ) → i < length T → InRange i 0 (entryFields (entry T i))) × ((i j : ℕ) → i < j → j < length T → entry T i ≢ entry T j))
+table-iff = Numbered.table-iff
 
 -- a text reads as one table and one list of claims
 pub one-reading : {text : List ℕ} {T U : Table} {cs ds : List Sided} {ss rs : List Step} → ReadsProof text T cs ss → ReadsProof text U ds rs → (T ≡ U) × (cs ≡ ds)
