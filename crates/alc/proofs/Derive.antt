@@ -4,6 +4,7 @@
 use Prim.Native.Nat.{ℕ, _+_, _≤_}
 use native.Mathlib.Omega.{arith}
 use mathlib.Core.List.{List, [], _∷_, _++_, append-assoc}
+use mathlib.Core.Logic.{_↔_}
 use mathlib.Core.Path.{_≡_, refl, sym, ap, subst, _∙_}
 use lib.ListN.{length, length-append}
 use Rattle.alc.specs.Lists.{All}
@@ -11,16 +12,10 @@ use Rattle.alc.specs.Table.{Table, WellFormed}
 use Rattle.alc.specs.Claims.{Goal, Valid}
 use Rattle.alc.specs.Rules.{Step}
 use Rattle.alc.specs.Slide.{Rule}
-use Rattle.alc.specs.Derivation.{Derives, none, by}
+use Rattle.alc.specs.Derivation.{Derives, none, by, Works, done, on}
 use Rattle.alc.proofs.Sound.{step-sound}
 use Rattle.alc.proofs.RulesSound.{plan-sound}
 use Rattle.alc.proofs.Slides.{fits-of}
-
--- the steps, one by one on the open goals, the current one first: from the goals open before to those open after
-pub data Works (T : Table) : List Step → List Goal → List Goal → Type 0 where
-  done : {gs : List Goal} → Works T [] gs gs
-  on : {s : Step} {ss : List Step} {g : Goal} {gs ps hs : List Goal} → Rule T g s ps → All (λ p. length p ≤ 64) ps → length (ps ++ gs) ≤ 17
-      → Works T ss (ps ++ gs) hs → Works T (s ∷ ss) (g ∷ gs) hs
 
 module _ (T : Table) where
   pub works-append : {ss rs : List Step} {gs hs ks : List Goal} → Works T ss gs hs → Works T rs hs ks → Works T (ss ++ rs) gs ks
@@ -60,6 +55,10 @@ module _ (T : Table) where
   works-derives (on {s} {ss} {g} {gs} {ps} r k l w) =
       let p = split ps gs 0 (works-derives w) in
       subst (λ z. Derives T 0 (s ∷ z) (g ∷ gs)) (sym (p .steps)) (by r k (omega (arith, length-append ps gs)) (p .front) (p .back))
+
+  -- the goal of a dossier: no other waits
+  pub derives-iff : (ss : List Step) (g : Goal) → Derives T 0 ss (g ∷ []) ↔ Works T ss (g ∷ []) []
+  derives-iff ss g = (λ d. derives-works d [] refl, λ w. works-derives w)
 
   -- each rule is sound, and so what is derived holds everywhere
   pub rule-sound : WellFormed T → {g : Goal} {s : Step} {ps : List Goal} → Rule T g s ps → All (Valid T) ps → Valid T g

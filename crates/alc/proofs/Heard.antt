@@ -19,11 +19,12 @@ use Rattle.alc.specs.Model.{Fact, repeats}
 use Rattle.alc.specs.Dossier.{Said, concept, claim, proof, model, step, size, fact}
 use Rattle.alc.specs.Verdict.{table, claims, steps, start, facts, State, state, begin, rows, after}
 use Rattle.alc.specs.Reading.{InTurn, InRange, GoodTable, GoodClaims, GoodSteps, GoodModel}
+use Rattle.alc.specs.Derivation.{Works, done, on}
 use Rattle.alc.specs.Refusal.{AllPassed}
 use Rattle.alc.proofs.Logic.{and-true}
 use Rattle.alc.proofs.ListFacts.{All-map, All-append, every-All}
 use Rattle.alc.proofs.Slides.{rule-of}
-use Rattle.alc.proofs.Derive.{Works, done, on, works-append}
+use Rattle.alc.proofs.Derive.{works-append}
 use Rattle.alc.proofs.Places.{
   Turn,
   turn,

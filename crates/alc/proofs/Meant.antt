@@ -11,7 +11,7 @@ use lib.Dec.{eqb, ltb}
 use lib.ListN.{getD}
 use borrow.Author.Tests.{ltb-true}
 use Rattle.alc.specs.Lists.{All}
-use Rattle.alc.specs.Meaning.{Interp, Placed}
+use Rattle.alc.specs.Meaning.{Placed}
 use Rattle.alc.specs.Table.{Table}
 use Rattle.alc.specs.Claims.{Sided, Goal, holds, Valid}
 use Rattle.alc.specs.Rules.{Step}
@@ -21,6 +21,7 @@ use Rattle.alc.specs.Verdict.{proved, refuted, verdict}
 use Rattle.alc.specs.Slide.{Rule}
 use Rattle.alc.specs.Derivation.{Derives}
 use Rattle.alc.specs.Reading.{InRange, GoodTable, GoodModel, ReadsProof, ReadsModel}
+use Rattle.alc.specs.Accepts.{Fails}
 use Rattle.alc.proofs.Logic.{and-true, clash}
 use Rattle.alc.proofs.ListFacts.{All-append}
 use Rattle.alc.proofs.Trees.{well-formed}
@@ -113,14 +114,6 @@ first-below n (d ∷ l) h k = k .0
 
 pub model-placed : (T : Table) (n : ℕ) (fs : List Fact) → GoodModel T n fs → Placed (interpOf n fs)
 model-placed T n fs m a = first-below n (placesIn fs a) (m .least) (all-below _ n a fs (m .ranges))
-
--- an interpretation in which the sequent fails
-pub record Fails (T : Table) (cs : List Sided) : Type 0 where
-  pub interp : Interp
-  pub placed : Placed interp
-  pub least : 1 ≤ interp .world .size
-  pub most : interp .world .size ≤ 32
-  pub fails : holds T interp cs ≡ false
 
 pub refuted-fails : (room n : ℕ) (text : List ℕ) {T : Table} {cs : List Sided} {k : ℕ} {fs : List Fact} → verdict room text ≡ refuted n → ReadsModel text T cs k fs → Fails T cs
 refuted-fails room n text {T} {cs} {k} {fs} e r =

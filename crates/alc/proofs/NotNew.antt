@@ -36,15 +36,14 @@ use Rattle.alc.specs.Rules.{Step, stepFields, plan}
 use Rattle.alc.specs.Goals.{areNew, stepRows}
 use Rattle.alc.specs.Model as Model
 use Rattle.alc.specs.Model.{Fact}
-use Rattle.alc.specs.Dossier.{Said, concept, claim, proof, step, unread, saidBy}
+use Rattle.alc.specs.Dossier.{concept, claim, proof, step, unread, saidBy}
 use Rattle.alc.specs.Verdict.{proved, refuted, refused, state, steps, begin, rows, after, ending, judge, verdict}
 use Rattle.alc.specs.Known.{text}
-use Rattle.alc.specs.Reading.{InRange, GoodTable, GoodClaims, GoodSteps, ReadsProof, ReadsModel}
+use Rattle.alc.specs.Reading.{InRange, ReadsProof, ReadsModel, ReadsUpTo, lineOf}
 use Rattle.alc.specs.Refusal.{AllPassed, First, here, later, said, BadLine, at-line}
 use Rattle.alc.specs.Slide.{_∋_, _∉_, Is}
 use Rattle.alc.proofs.Logic.{is-false}
 use Rattle.alc.proofs.Slides.{unnamed}
-use Rattle.alc.proofs.Derive.{Works}
 use Rattle.alc.proofs.Places.{fits, at-place}
 use Rattle.alc.proofs.Runs.{run-passes, proof-run, Run}
 use Rattle.alc.proofs.Verdicts.{refused-iff}
@@ -78,20 +77,6 @@ cut-map f (a ∷ l) (x ∷ xs) y ys e =
       front = ap₂ _∷_ (head-eq-of-cons-eq e) (c .front);
       here = c .here;
     }
-
--- the text reads as far as the steps ss, which leave the goals gs open; then comes step s
-pub record ReadsUpTo (text : List ℕ) (T : Table) (cs : List Sided) (ss : List Step) (gs : List Goal) (s : Step) : Type 0 where
-  pub behind : List Said
-  pub short : length text ≤ 65535
-  pub lines : map saidBy (linesOf text) ≡ (map concept T ++ (map claim cs ++ (proof ∷ map step ss))) ++ (step s ∷ behind)
-  pub table : GoodTable T
-  pub claims : GoodClaims T cs
-  pub steps : GoodSteps T ss
-  pub works : Works T ss (cs ∷ []) gs
-
--- its line's number
-abbrev pub lineOf : Table → List Sided → List Step → ℕ
-lineOf T cs ss = suc (length T + (length cs + suc (length ss)))
 
 -- a step is refused by the first of its rows that it does not pass
 pub step-refused : (room : ℕ) (text : List ℕ) (T : Table) (cs : List Sided) (ss : List Step) (gs : List Goal) (s : Step) (k : ℕ) → 1088 ≤ room
@@ -137,10 +122,10 @@ some-l-refused room text T cs ss g gs a i b h r l q k n o =
     (not-new T (length ss) g gs (Rules.some-l a i b) l q k (rw n) (is-false (areNew (b ∷ []) g) (λ e. o (unnamed b g e))))
 
 -- K6's SENTENCE: `atom 0`, `some 0 0`, `left is 0 1`, `right is 0 0`
-abbrev pub giftTable : Table
+abbrev giftTable : Table
 giftTable = entryOf Kind.atom 0 0 ∷ entryOf Kind.some 0 0 ∷ []
 
-abbrev pub giftClaims : List Sided
+abbrev giftClaims : List Sided
 giftClaims = left (is 0 1) ∷ right (is 0 0) ∷ []
 
 -- the text of K7

@@ -24,9 +24,9 @@ use Rattle.alc.specs.Verdict.{Part, table, claims, steps, facts, State, 
 use Rattle.alc.specs.Reading.{InTurn, InRange, GoodTable, GoodClaims, GoodSteps, GoodModel}
 use Rattle.alc.specs.Refusal.{AllPassed, said, Passes, none, line}
 use Rattle.alc.specs.Slide.{Rule}
+use Rattle.alc.specs.Derivation.{Works, done, on}
 use Rattle.alc.proofs.ListFacts.{All-map, All-every}
 use Rattle.alc.proofs.Slides.{fits-of}
-use Rattle.alc.proofs.Derive.{Works, done, on}
 use Rattle.alc.proofs.Places.{fits, at-place}
 
 pub data Run : State → List Said → State → Type 0 where

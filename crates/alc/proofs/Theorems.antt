@@ -9,8 +9,8 @@ use lib.ListN.{length}
 use Rattle.lines.specs.Text.{linesOf}
 use Rattle.alc.specs.Lists.{All, every, elem}
 use Rattle.alc.specs.Meaning.{Interp}
-use Rattle.alc.specs.Table.{Table, Kind, entry, entryFields}
-use Rattle.alc.specs.Claims.{Sided, Goal, is, left, has, holds, Valid}
+use Rattle.alc.specs.Table.{Table, Kind, entryOf, entry, entryFields}
+use Rattle.alc.specs.Claims.{Sided, Goal, is, left, right, has, holds, Valid}
 use Rattle.alc.specs.Rules
 use Rattle.alc.specs.Rules.{Step, stepFields, plan}
 use Rattle.alc.specs.Goals.{areNew, premises, stepRows}
@@ -19,20 +19,19 @@ use Rattle.alc.specs.Dossier.{Said}
 use Rattle.alc.specs.Verdict.{proved, refuted, refused, State, rows, verdict}
 use Rattle.alc.specs.Known as Dossiers
 use Rattle.alc.specs.Slide.{Rule, Is, _∋_, _∉_}
-use Rattle.alc.specs.Derivation.{Derives}
-use Rattle.alc.specs.Reading.{InRange, GoodTable, ReadsProof, ReadsModel}
-use Rattle.alc.specs.Accepts.{Proves, Against, Falsifies}
+use Rattle.alc.specs.Derivation.{Derives, Works}
+use Rattle.alc.specs.Reading.{InRange, GoodTable, ReadsProof, ReadsModel, ReadsUpTo, lineOf}
+use Rattle.alc.specs.Accepts.{Proves, Against, Falsifies, Fails}
 use Rattle.alc.specs.Refusal.{order, within, First, Refuses}
 use Rattle.alc.proofs.Known
 use Rattle.alc.proofs.Slides
+use Rattle.alc.proofs.Derive
 use Rattle.alc.proofs.Passing
 use Rattle.alc.proofs.Verdicts
 use Rattle.alc.proofs.Numbered
 use Rattle.alc.proofs.Meant
-use Rattle.alc.proofs.Meant.{Fails}
 use Rattle.alc.proofs.Ending
 use Rattle.alc.proofs.NotNew
-use Rattle.alc.proofs.NotNew.{ReadsUpTo, lineOf, giftTable, giftClaims}
 
 -- WHAT THE VERDICTS SAY OF THE TEXT
 -- `proved`, exactly if the room is wide enough, the text reads as a table, claims and steps, and the steps derive the claims; the line is the count of lines
@@ -97,6 +96,10 @@ pub row-is-rule : (T : Table) (g : Goal) (s : Step) (ps : List Goal)
     → ((plan T s .asks ≡ true) × (every (has g) (plan T s .needs) ≡ true) × (areNew (plan T s .news) g ≡ true) × (ps ≡ premises (plan T s) g)) ↔ Rule T g s ps
 row-is-rule = Slides.row-is-rule
 
+-- a derivation has no order of work in it; document 01's order gives the same
+pub derives-iff : (T : Table) (ss : List Step) (g : Goal) → Derives T 0 ss (g ∷ []) ↔ Works T ss (g ∷ []) []
+derives-iff = Derive.derives-iff
+
 -- each rule is sound: where its premises hold everywhere, so does the goal
 pub rule-sound : (T : Table) → GoodTable T → (g : Goal) (s : Step) (ps : List Goal) → Rule T g s ps → All (Valid T) ps → Valid T g
 rule-sound = Meant.rule-sound
@@ -113,6 +116,7 @@ pub not-new : (T : Table) (n : ℕ) (g : Goal) (gs : List Goal) (s : Step) → n
     → every (has g) (plan T s .needs) ≡ true → areNew (plan T s .news) g ≡ false → First 8 (stepRows T n (g ∷ gs) s)
 not-new = NotNew.not-new
 
--- no dossier proves K6's sentence: K7 refutes it
-pub gift-unproved : (room n : ℕ) (text : List ℕ) (ss : List Step) → ReadsProof text giftTable giftClaims ss → verdict room text ≡ proved n → ⊥
+-- no dossier proves K6's sentence, `atom 0`, `some 0 0`, `left is 0 1`, `right is 0 0`: K7 refutes it
+pub gift-unproved : (room n : ℕ) (text : List ℕ) (ss : List Step)
+    → ReadsProof text (entryOf Kind.atom 0 0 ∷ entryOf Kind.some 0 0 ∷ []) (left (is 0 1) ∷ right (is 0 0) ∷ []) ss → verdict room text ≡ proved n → ⊥
 gift-unproved = NotNew.gift-unproved

@@ -1,13 +1,13 @@
 -- What a dossier shows that gets a passing verdict.
 -- Assumes nothing.
-use Prim.Native.Nat.{ℕ}
+use Prim.Native.Nat.{ℕ, _≤_}
 use mathlib.Core.Bool.{true, false}
 use mathlib.Core.List.{List, [], _∷_}
 use mathlib.Core.Path.{_≡_}
 use Rattle.alc.specs.Lists.{All}
-use Rattle.alc.specs.Meaning.{Interp}
+use Rattle.alc.specs.Meaning.{Interp, Placed}
 use Rattle.alc.specs.Table.{Table}
-use Rattle.alc.specs.Claims.{Sided, left, right, truth}
+use Rattle.alc.specs.Claims.{Sided, left, right, truth, holds}
 use Rattle.alc.specs.Rules.{Step}
 use Rattle.alc.specs.Model.{Fact, interpOf, allPlaced}
 use Rattle.alc.specs.Derivation.{Derives}
@@ -35,3 +35,11 @@ pub record Falsifies (text : List ℕ) : Type 0 where
   pub reads : ReadsModel text table claims size facts
   pub placed : allPlaced facts claims ≡ true
   pub against : All (Against table (interpOf size facts)) claims
+
+-- the sequent fails in an interpretation of 1 to 32 elements
+pub record Fails (T : Table) (cs : List Sided) : Type 0 where
+  pub interp : Interp
+  pub placed : Placed interp
+  pub least : 1 ≤ interp .world .size
+  pub most : interp .world .size ≤ 32
+  pub fails : holds T interp cs ≡ false

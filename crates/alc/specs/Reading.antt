@@ -1,7 +1,7 @@
 -- "The text reads as ..": a table, claims, and then a derivation or a model, with the ranges and limits of document 01. No line's place and no
 -- state of the judge is named here.
 -- Assumes nothing.
-use Prim.Native.Nat.{ℕ, _≤_}
+use Prim.Native.Nat.{ℕ, suc, _+_, _≤_}
 use mathlib.Core.Bool.{true, false}
 use mathlib.Core.List.{List, [], _∷_, _++_, map}
 use mathlib.Core.Path.{_≡_}
@@ -10,11 +10,12 @@ use Rattle.lines.specs.Text.{linesOf}
 use Rattle.alc.specs.Lists.{All, every}
 use Rattle.alc.specs.Ranges.{Field, inRange}
 use Rattle.alc.specs.Table.{Table, stands, entryFields}
-use Rattle.alc.specs.Claims.{Sided, claimFields}
+use Rattle.alc.specs.Claims.{Sided, Goal, claimFields}
 use Rattle.alc.specs.Claims as Claims
 use Rattle.alc.specs.Rules.{Step, stepFields}
 use Rattle.alc.specs.Model.{Fact, factFields, repeats}
-use Rattle.alc.specs.Dossier.{concept, claim, proof, model, step, size, fact, saidBy}
+use Rattle.alc.specs.Dossier.{Said, concept, claim, proof, model, step, size, fact, saidBy}
+use Rattle.alc.specs.Derivation.{Works}
 
 module _ {A : Type 0} where
   -- P holds of each element and the elements before it
@@ -64,3 +65,17 @@ pub record ReadsModel (text : List ℕ) (T : Table) (cs : List Sided) (n : ℕ) 
   pub table : GoodTable T
   pub claims : GoodClaims T cs
   pub facts : GoodModel T n fs
+
+-- the text reads as far as the steps ss, which leave the goals gs open; then comes step s
+pub record ReadsUpTo (text : List ℕ) (T : Table) (cs : List Sided) (ss : List Step) (gs : List Goal) (s : Step) : Type 0 where
+  pub behind : List Said
+  pub short : length text ≤ 65535
+  pub lines : map saidBy (linesOf text) ≡ (map concept T ++ (map claim cs ++ (proof ∷ map step ss))) ++ (step s ∷ behind)
+  pub table : GoodTable T
+  pub claims : GoodClaims T cs
+  pub steps : GoodSteps T ss
+  pub works : Works T ss (cs ∷ []) gs
+
+-- the line of that step
+abbrev pub lineOf : Table → List Sided → List Step → ℕ
+lineOf T cs ss = suc (length T + (length cs + suc (length ss)))
