@@ -34,11 +34,13 @@ use Rattle.alc.proofs.Ending
 use Rattle.alc.proofs.NotNew
 
 -- WHAT THE VERDICTS SAY OF THE TEXT
--- `proved`, exactly if the room is wide enough, the text reads as a table, claims and steps, and the steps derive the claims; the line is the count of lines
+-- `proved`, exactly if the room is wide enough, the text reads as a table, claims and steps, and the steps derive the claims. The line is the
+-- count of lines
 pub proved-iff : (room : ℕ) (text : List ℕ) (n : ℕ) → (verdict room text ≡ proved n) ↔ ((1088 ≤ room) × Proves text × (n ≡ length (linesOf text)))
 proved-iff = Verdicts.proved-iff
 
--- `refuted`, exactly if the room is wide enough, and the text reads as a table, claims and a model with all left claims true, no right claim true, every name in a claim placed
+-- `refuted`, exactly if the room is wide enough, and the text reads as a table, claims and a model: all left claims true, no right claim true,
+-- every name in a claim placed
 pub refuted-iff : (room : ℕ) (text : List ℕ) (n : ℕ) → (verdict room text ≡ refuted n) ↔ ((1088 ≤ room) × Falsifies text × (n ≡ length (linesOf text)))
 refuted-iff = Verdicts.refuted-iff
 
@@ -46,7 +48,8 @@ refuted-iff = Verdicts.refuted-iff
 pub against-fails : (T : Table) (I : Interp) (cs : List Sided) → All (Against T I) cs ↔ (holds T I cs ≡ false)
 against-fails = Ending.against-fails
 
--- `refused` with number k at line n, exactly if document 01's table says so: 14, then 1, then the first row of the earliest bad line, then 12, then 13
+-- `refused` with number k at line n, exactly if document 01's table says so: 14, then 1, then the first row of the earliest bad line that it does
+-- not pass, then 12, then 13
 pub refused-iff : (room : ℕ) (text : List ℕ) (k n : ℕ) → (verdict room text ≡ refused k n) ↔ Refuses room text k n
 refused-iff = Verdicts.refused-iff
 
