@@ -1,5 +1,5 @@
 -- The definitions give every known dossier its verdict: both sides are computed. Assumes nothing.
-use mathlib.Core.Bool.{Bool, true, decide}
+use mathlib.Core.Bool.{true, decide}
 use mathlib.Core.Path.{_≡_, refl}
 use native.Mathlib.Decide.{ℕ-discrete}
 use Rattle.lines.specs.Text.{

@@ -54,6 +54,8 @@ known =
     ∷ gives ("atom 0" ∷ "some 0 0" ∷ "left link 0 0 1" ∷ "left is 1 0" ∷ "right is 0 1" ∷ "proof" ∷ "some-r 0 1 1" ∷ "id 1 0" ∷ []) "proved" 0 8
     ∷ gives ("atom 0" ∷ "not 0" ∷ "left is 0 1" ∷ "right is 0 1" ∷ "proof" ∷ "id 0 1" ∷ []) "refused" 6 6
     ∷ gives ("atom 0" ∷ "some 0 0" ∷ "left is 0 1" ∷ "right is 1 0" ∷ "proof" ∷ "some-l 0 1 0" ∷ []) "refused" 8 6
+    -- a name that stands on the right only is not new
+    ∷ gives ("atom 0" ∷ "some 0 0" ∷ "left is 0 1" ∷ "right is 1 0" ∷ "proof" ∷ "some-l 0 1 1" ∷ []) "refused" 8 6
     -- a `some-l` that passes, and what it leaves is closed by its own claims
     ∷ gives ("atom 0" ∷ "some 0 0" ∷ "left is 0 1" ∷ "right is 0 1" ∷ "proof" ∷ "some-l 0 1 1" ∷ "some-r 0 1 1" ∷ "id 1 0" ∷ []) "proved" 0 8
     -- an `and-r` with both premises closed, and with the second left open

@@ -9,5 +9,10 @@ pub mod Goals
 pub mod Model
 pub mod Dossier
 pub mod Verdict
+pub mod Slide
+pub mod Derivation
+pub mod Reading
+pub mod Accepts
+pub mod Refusal
 pub mod Known
 pub mod Shown

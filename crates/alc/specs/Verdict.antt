@@ -62,7 +62,7 @@ pub record State : Type 0 where
   pub size : ℕ
   pub facts : List Fact
 
-abbrev state : Part → Table → List Sided → ℕ → List Goal → ℕ → List Fact → State
+abbrev pub state : Part → Table → List Sided → ℕ → List Goal → ℕ → List Fact → State
 state p T cs n gs k fs = record { part = p; table = T; claims = cs; steps = n; goals = gs; size = k; facts = fs }
 
 -- before the first line

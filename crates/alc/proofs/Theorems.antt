@@ -1,0 +1,125 @@
+-- The theorems: what each verdict means, over the definitions of specs/. Each is proved in the file that its line names.
+-- Assumes nothing.
+use Prim.Native.Nat.{ℕ, _≤_, _<_}
+use mathlib.Core.Bool.{true, false}
+use mathlib.Core.List.{List, [], _∷_, map}
+use mathlib.Core.Logic.{_↔_, _≢_}
+use mathlib.Core.Path.{_≡_}
+use lib.ListN.{length}
+use Rattle.lines.specs.Text.{linesOf}
+use Rattle.alc.specs.Lists.{All, every, elem}
+use Rattle.alc.specs.Meaning.{Interp}
+use Rattle.alc.specs.Table.{Table, Kind, entryOf, entry, entryFields}
+use Rattle.alc.specs.Claims.{Sided, Goal, is, left, right, has, holds, Valid}
+use Rattle.alc.specs.Rules
+use Rattle.alc.specs.Rules.{Step, stepFields, plan}
+use Rattle.alc.specs.Goals.{areNew, premises, stepRows}
+use Rattle.alc.specs.Model.{Fact}
+use Rattle.alc.specs.Dossier.{Said}
+use Rattle.alc.specs.Verdict.{proved, refuted, refused, State, rows, verdict}
+use Rattle.alc.specs.Known as Dossiers
+use Rattle.alc.specs.Slide.{Rule, Is, _∋_, _∉_}
+use Rattle.alc.specs.Derivation.{Derives, Works}
+use Rattle.alc.specs.Reading.{InRange, GoodTable, ReadsProof, ReadsModel, ReadsUpTo, lineOf}
+use Rattle.alc.specs.Accepts.{Proves, Against, Falsifies, Fails}
+use Rattle.alc.specs.Refusal.{order, within, First, Refuses}
+use Rattle.alc.proofs.Known
+use Rattle.alc.proofs.Slides
+use Rattle.alc.proofs.Derive
+use Rattle.alc.proofs.Passing
+use Rattle.alc.proofs.Verdicts
+use Rattle.alc.proofs.Numbered
+use Rattle.alc.proofs.Meant
+use Rattle.alc.proofs.Ending
+use Rattle.alc.proofs.NotNew
+
+-- WHAT THE VERDICTS SAY OF THE TEXT
+-- `proved`, exactly if the room is wide enough, the text reads as a table, claims and steps, and the steps derive the claims. The line is the
+-- count of lines
+pub proved-iff : (room : ℕ) (text : List ℕ) (n : ℕ) → (verdict room text ≡ proved n) ↔ ((1088 ≤ room) × Proves text × (n ≡ length (linesOf text)))
+proved-iff = Verdicts.proved-iff
+
+-- `refuted`, exactly if the room is wide enough, and the text reads as a table, claims and a model: all left claims true, no right claim true,
+-- every name in a claim placed
+pub refuted-iff : (room : ℕ) (text : List ℕ) (n : ℕ) → (verdict room text ≡ refuted n) ↔ ((1088 ≤ room) × Falsifies text × (n ≡ length (linesOf text)))
+refuted-iff = Verdicts.refuted-iff
+
+-- "all left claims true, no right claim true" is that the sequent does not hold
+pub against-fails : (T : Table) (I : Interp) (cs : List Sided) → All (Against T I) cs ↔ (holds T I cs ≡ false)
+against-fails = Ending.against-fails
+
+-- `refused` with number k at line n, exactly if document 01's table says so: 14, then 1, then the first row of the earliest bad line that it does
+-- not pass, then 12, then 13
+pub refused-iff : (room : ℕ) (text : List ℕ) (k n : ℕ) → (verdict room text ≡ refused k n) ↔ Refuses room text k n
+refused-iff = Verdicts.refused-iff
+
+-- the rows of a line stand in the order of that table
+pub rows-in-order : (S : State) (s : Said) → within (map (λ r. r .number) (rows S s)) order ≡ true
+rows-in-order = Passing.in-order
+
+-- so a line is refused with one of their numbers: 14 and 1 come before the lines, 12 and 13 at the end only
+pub line-number : (S : State) (s : Said) (k : ℕ) → First k (rows S s) → elem k order ≡ true
+line-number = Passing.line-number
+
+-- the dossiers with known verdicts have them
+pub known-verdicts : every Dossiers.asKnown Dossiers.known ≡ true
+known-verdicts = Known.known-verdicts
+
+-- WHAT THE VERDICTS MEAN
+-- a derivation from a table of the form proves its goal: it holds in every interpretation, of any size
+pub derived-valid : (T : Table) (cs : List Sided) (ss : List Step) → GoodTable T → Derives T 0 ss (cs ∷ []) → Valid T cs
+derived-valid = Meant.derived-valid
+
+-- what is proved holds in every interpretation
+pub proved-valid : (room n : ℕ) (text : List ℕ) {T : Table} {cs : List Sided} {ss : List Step} → verdict room text ≡ proved n → ReadsProof text T cs ss → Valid T cs
+proved-valid = Meant.proved-valid
+
+-- what is refuted fails in an interpretation of 1 to 32 elements
+pub refuted-fails : (room n : ℕ) (text : List ℕ) {T : Table} {cs : List Sided} {k : ℕ} {fs : List Fact} → verdict room text ≡ refuted n → ReadsModel text T cs k fs
+    → Fails T cs
+refuted-fails = Meant.refuted-fails
+
+-- no sequent is proved by one text and refuted by another
+pub never-both : (room₁ room₂ n₁ n₂ : ℕ) (text₁ text₂ : List ℕ) {T : Table} {cs : List Sided} {ss : List Step} {k : ℕ} {fs : List Fact} → ReadsProof text₁ T cs ss
+    → ReadsModel text₂ T cs k fs → verdict room₁ text₁ ≡ proved n₁ → verdict room₂ text₂ ≡ refuted n₂ → ⊥
+never-both = Meant.never-both
+
+-- the table, line by line: at most 256 lines, the fields of line i in the range of number i, no two lines equal
+pub table-iff : (T : Table) → GoodTable T
+    ↔ ((length T ≤ 256) × ((i : ℕ) → i < length T → InRange i 0 (entryFields (entry T i))) × ((i j : ℕ) → i < j → j < length T → entry T i ≢ entry T j))
+table-iff = Numbered.table-iff
+
+-- a text reads as one table and one list of claims
+pub one-reading : {text : List ℕ} {T U : Table} {cs ds : List Sided} {ss rs : List Step} → ReadsProof text T cs ss → ReadsProof text U ds rs → (T ≡ U) × (cs ≡ ds)
+one-reading = Meant.one-proof
+
+-- THE RULES
+-- a step's row in the table of rules is the slide's rule: the same entry, claims and new name, the same premises
+pub row-is-rule : (T : Table) (g : Goal) (s : Step) (ps : List Goal)
+    → ((plan T s .asks ≡ true) × (every (has g) (plan T s .needs) ≡ true) × (areNew (plan T s .news) g ≡ true) × (ps ≡ premises (plan T s) g)) ↔ Rule T g s ps
+row-is-rule = Slides.row-is-rule
+
+-- a derivation has no order of work in it; document 01's order gives the same
+pub derives-iff : (T : Table) (ss : List Step) (g : Goal) → Derives T 0 ss (g ∷ []) ↔ Works T ss (g ∷ []) []
+derives-iff = Derive.derives-iff
+
+-- each rule is sound: where its premises hold everywhere, so does the goal
+pub rule-sound : (T : Table) → GoodTable T → (g : Goal) (s : Step) (ps : List Goal) → Rule T g s ps → All (Valid T) ps → Valid T g
+rule-sound = Meant.rule-sound
+
+-- NEW NAMES
+-- a `some-l` whose name stands in its goal already is refused with 8 at its line, whatever was read before and comes behind
+pub some-l-refused : (room : ℕ) (text : List ℕ) (T : Table) (cs : List Sided) (ss : List Step) (g : Goal) (gs : List Goal) (a i b : ℕ) → 1088 ≤ room
+    → ReadsUpTo text T cs ss (g ∷ gs) (Rules.some-l a i b) → length ss < 1024 → InRange (length T) 0 (stepFields (Rules.some-l a i b)) → Is T i Kind.some
+    → g ∋ left (is a i) → (b ∉ g → ⊥) → verdict room text ≡ refused 8 (lineOf T cs ss)
+some-l-refused = NotNew.some-l-refused
+
+-- whichever the step: where all before newness is in order and its names are not new, 8 is the first row that is not passed
+pub not-new : (T : Table) (n : ℕ) (g : Goal) (gs : List Goal) (s : Step) → n < 1024 → InRange (length T) 0 (stepFields s) → plan T s .asks ≡ true
+    → every (has g) (plan T s .needs) ≡ true → areNew (plan T s .news) g ≡ false → First 8 (stepRows T n (g ∷ gs) s)
+not-new = NotNew.not-new
+
+-- no dossier proves K6's sentence, `atom 0`, `some 0 0`, `left is 0 1`, `right is 0 0`: K7 refutes it
+pub gift-unproved : (room n : ℕ) (text : List ℕ) (ss : List Step)
+    → ReadsProof text (entryOf Kind.atom 0 0 ∷ entryOf Kind.some 0 0 ∷ []) (left (is 0 1) ∷ right (is 0 0) ∷ []) ss → verdict room text ≡ proved n → ⊥
+gift-unproved = NotNew.gift-unproved
