@@ -286,7 +286,7 @@ agree-all : everyBelow 8 (λ a. everyBelow 8 (λ k. agree a k)) ≡ true
 unfolding agree decide
 agree-all = refl
 
-below-at : (p : ℕ → Bool) (n : ℕ) → everyBelow n p ≡ true → (i : ℕ) → i < n → p i ≡ true
+pub below-at : (p : ℕ → Bool) (n : ℕ) → everyBelow n p ≡ true → (i : ℕ) → i < n → p i ≡ true
 below-at p zero h i l = absurd (not-suc-le-zero l)
 below-at p (suc n) h i l = go (λ g. below-at p n (and-right (p n) (everyBelow n p) h) i g) (ℕ-discrete i n)
   where

@@ -340,8 +340,19 @@ fn has(g: Goal, c: Claim) -> bool
     find(g, c) < g.count
 }
 
+// A goal with no claim.
+pub fn empty() -> Goal
+    ensures { λ r. ⌜ (records r ≡ []) × (r .count ≡ 0) ⌝ }
+{
+    let blank = alc::is(0, Name(0), Concept(0));
+    Goal {
+        claims: [blank; 64],
+        count: 0,
+    }
+}
+
 // The goal with one claim more, behind the others; a full goal stays as it is.
-fn with(g: Goal, c: Claim) -> Goal
+pub fn with(g: Goal, c: Claim) -> Goal
     requires { ⌜ g .count ≤ 64 ⌝ }
     ensures { λ r. ⌜ (records r ≡ cond (ltb (g .count) 64) (records g ++ (c ∷ [])) (records g)) × (r .count ≡ cond (ltb (g .count) 64) (g .count + 1) (g .count)) ⌝ }
 {
