@@ -1,2 +1,3 @@
 pub mod BitLaws
 pub mod Stores
+pub mod ExtentLaws

@@ -2,11 +2,16 @@
 // the first claim that the model gets wrong is found. The caller holds the model in arrays of numbers and lends them.
 ghost use mathlib.Core.Path.{_≡_};
 ghost use mathlib.Core.Bool.{_&&_, _||_, not};
-ghost use Prim.Native.Nat.{ℕ, _<_};
+ghost use Prim.Native.Nat.{ℕ, _+_, _*_, _<_};
 ghost use lib.Dec.{eqb, ltb};
-ghost use lib.ListN.{length};
+ghost use lib.ListN.{length, getD};
+ghost use Rattle.alc.specs.Lists.{All};
+ghost use Rattle.alc.specs.Meaning.{someBelow, everyBelow};
+ghost use Rattle.alc.specs.Table.{fieldsBy};
+ghost use Rattle.alc.specs.Shown.{kindAt};
 ghost use Rattle.models.specs.Bit.{bit, common};
-ghost use Rattle.models.specs.Shown.{Sized, SetAdded, PlaceSet, AtomSet, EdgeSet};
+ghost use Rattle.models.specs.Extent.{extent as extentOf};
+ghost use Rattle.models.specs.Shown.{worldOf, edgeIn, Below, Sized, SetAdded, PlaceSet, AtomSet, EdgeSet};
 
 // Element d is in the set.
 fn in_set(x: u32, d: u8) -> bool
@@ -98,4 +103,80 @@ pub fn set_edge(edges: &mut [u32; 512], r: alc::Role, d: alc::Element, e: alc::E
     ensures { λ q. ⌜ EdgeSet (now (edges .entry)) (now (edges .exit)) (r .0) (d .0) (e .0) q ⌝ }
 {
     add_to(edges, (r.0 as usize) * 32 + (d.0 as usize), e.0)
+}
+
+// The elements of a size with an edge of the role into the set.
+fn reaching(size: u8, edges: &[u32; 512], r: alc::Role, s: u32) -> u32
+    requires { ⌜ Sized size ⌝ }
+    requires { ⌜ r .0 < 16 ⌝ }
+    ensures { λ q. ⌜ ((d : ℕ) → bit q d ≡ (ltb d size && common (getD (now (edges .entry)) (r .0 * 32 + d) 0) s)) ⌝ }
+{
+    let row = (r.0 as usize) * 32;
+    let mut out: u32 = 0;
+    let mut d: u8 = 0;
+    while d < size {
+        let to = edges[row + (d as usize)];
+        out = marked(out, d, meets(to, s));
+        d += 1;
+    }
+    out
+}
+
+// The elements of a line above.
+fn set_of(ext: &[u32; 256], i: alc::Concept) -> u32
+    ensures { λ r. ⌜ r ≡ getD (now (ext .entry)) (i .0) 0 ⌝ }
+{
+    ext[i.0 as usize]
+}
+
+// The elements of an atom.
+fn atom_of(atoms: &[u32; 64], a: alc::Atom) -> u32
+    requires { ⌜ a .0 < 64 ⌝ }
+    ensures { λ r. ⌜ r ≡ getD (now (atoms .entry)) (a .0) 0 ⌝ }
+{
+    atoms[a.0 as usize]
+}
+
+// The elements of a size with an edge of the role into the set: what `some` has.
+fn some_in(size: u8, edges: &[u32; 512], r: alc::Role, s: u32) -> u32
+    requires { ⌜ Sized size ⌝ }
+    requires { ⌜ r .0 < 16 ⌝ }
+    ensures { λ q. ⌜ ((d : ℕ) → bit q d ≡ (ltb d size && someBelow size (λ e. edgeIn (now (edges .entry)) (r .0) d e && bit s e))) ⌝ }
+{
+    reaching(size, edges, r, inside(size, s))
+}
+
+// The elements of a size with no edge of the role out of the set, so those with no edge too: what `all` has.
+fn all_in(size: u8, edges: &[u32; 512], r: alc::Role, s: u32) -> u32
+    requires { ⌜ Sized size ⌝ }
+    requires { ⌜ r .0 < 16 ⌝ }
+    ensures { λ q. ⌜ ((d : ℕ) → bit q d ≡ (ltb d size && everyBelow size (λ e. not (edgeIn (now (edges .entry)) (r .0) d e) || bit s e))) ⌝ }
+{
+    outside(size, reaching(size, edges, r, outside(size, s)))
+}
+
+// The elements of one line of the table, from those of the lines above it. Kinds are numbered from 0, `top`, to 7, `all`.
+fn extent(
+    kind: u8,
+    x: u8,
+    y: u8,
+    size: u8,
+    ext: &[u32; 256],
+    atoms: &[u32; 64],
+    edges: &[u32; 512],
+) -> u32
+    requires { ⌜ Sized size ⌝ }
+    requires { ⌜ All (Below 256) (fieldsBy (kindAt kind) x y) ⌝ }
+    ensures { λ r. ⌜ ((d : ℕ) → d < size → bit r d ≡ extentOf (worldOf size (now (atoms .entry)) (now (edges .entry))) (kindAt kind) x y (λ p. bit (getD (now (ext .entry)) p 0)) d) ⌝ }
+{
+    match kind {
+        1 => 0,
+        2 => atom_of(atoms, alc::Atom(x)),
+        3 => outside(size, set_of(ext, alc::Concept(x))),
+        4 => set_of(ext, alc::Concept(x)) & set_of(ext, alc::Concept(y)),
+        5 => set_of(ext, alc::Concept(x)) | set_of(ext, alc::Concept(y)),
+        6 => some_in(size, edges, alc::Role(x), set_of(ext, alc::Concept(y))),
+        7 => all_in(size, edges, alc::Role(x), set_of(ext, alc::Concept(y))),
+        _ => full(size),
+    }
 }
