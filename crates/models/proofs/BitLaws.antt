@@ -161,28 +161,23 @@ pub bit-meets : (n x y : ℕ) → x < 2 ^ n → y < 2 ^ n → not (eqb (bitAnd x
 bit-meets n x y h k = bit-some n (bitAnd x y) (and-lt n x y h k) ∙ ap (someBelow n) (fun-ext (bit-and x y))
 
 -- a set that is made element by element
-or-off : (a b : Bool) → (a || (b && false)) ≡ a
-or-off true b = refl
-or-off false true = refl
-or-off false false = refl
+pub ltb-more : (e d : ℕ) → (e ≡ d → ⊥) → ltb e (d + 1) ≡ ltb e d
+ltb-more e d h = go (ltb e d) refl
+  where
+    go : (t : Bool) → ltb e d ≡ t → ltb e (d + 1) ≡ ltb e d
+    go true t = lt-ltb e (d + 1) (omega (arith, ltb-true e d t)) ∙ sym t
+    go false t = le-ltb e (d + 1) (omega (arith, ltb-false e d t)) ∙ sym t
 
-and-on : (b : Bool) → (b && true) ≡ b
+pub and-on : (b : Bool) → (b && true) ≡ b
 and-on true = refl
 and-on false = refl
 
 module _ (f : ℕ → Bool) (out next d : ℕ) (b : Bool) (now : b ≡ f d)
     (before : (e : ℕ) → bit out e ≡ (ltb e d && f e))
     (marks : (e : ℕ) → bit next e ≡ (bit out e || (b && eqb d e))) where
-  same-test : (e : ℕ) → (d ≡ e → ⊥) → ltb e (d + 1) ≡ ltb e d
-  same-test e h = go (ltb e d) refl
-    where
-      go : (t : Bool) → ltb e d ≡ t → ltb e (d + 1) ≡ ltb e d
-      go true t = lt-ltb e (d + 1) (omega (arith, ltb-true e d t)) ∙ sym t
-      go false t = le-ltb e (d + 1) (omega (arith, ltb-false e d t)) ∙ sym t
-
-  cases : (e : ℕ) → Dec (d ≡ e) → ((ltb e d && f e) || (b && eqb d e)) ≡ (ltb e (d + 1) && f e)
-  cases e (yes h) = rw (le-ltb e d (omega arith), lt-ltb e (d + 1) (omega arith), eq-eqb d e h) (and-on b ∙ now ∙ ap f h)
-  cases e (no h) = rw (ne-eqb d e h, same-test e h) (or-off (ltb e d && f e) b)
-
   pub step : (e : ℕ) → bit next e ≡ (ltb e (d + 1) && f e)
-  step e = marks e ∙ ap (λ (t : Bool). t || (b && eqb d e)) (before e) ∙ cases e (ℕ-discrete d e)
+  step e = marks e ∙ ap (λ (t : Bool). t || (b && eqb d e)) (before e) ∙ go (ℕ-discrete d e)
+    where
+      go : Dec (d ≡ e) → ((ltb e d && f e) || (b && eqb d e)) ≡ (ltb e (d + 1) && f e)
+      go (yes h) = rw (le-ltb e d (omega arith), lt-ltb e (d + 1) (omega arith), eq-eqb d e h) (and-on b ∙ now ∙ ap f h)
+      go (no h) = rw (ne-eqb d e h, and-off b, ltb-more e d (λ p. h (sym p))) (or-none (ltb e d && f e))

@@ -11,7 +11,7 @@ use Rattle.alc.specs.Lists.{All, every, isEmpty}
 use Rattle.alc.specs.Ranges.{Field, role, atom, name, element, size, concept}
 use Rattle.alc.specs.Meaning.{World, Interp}
 use Rattle.alc.specs.Table.{Table, entry, entryFields}
-use Rattle.alc.specs.Claims.{Sided, claim, claimFields, names}
+use Rattle.alc.specs.Claims.{Claim, Sided, claim, claimFields, names}
 use Rattle.alc.specs.Shown.{sidedOf, records, tableOf}
 use Rattle.alc.specs.declared.Goal.{Goal as Records}
 use Rattle.models.specs.Bit.{bit}
@@ -97,3 +97,24 @@ Ranged T = (i : ℕ) → All (Below i) (entryFields (entry T i))
 pub record Sized (n : ℕ) : Type 0 where
   pub least : 1 ≤ n
   pub most : n ≤ 32
+
+-- up to 256 lines, with their numbers in range
+pub record Tabled (ks xs ys : List ℕ) (n : ℕ) : Type 0 where
+  pub few : n ≤ 256
+  pub ranged : Ranged (tableOf ks xs ys n)
+
+-- up to 64 claims, with their numbers in range of a table of n lines
+pub record Claimed (n : ℕ) (g : Records) : Type 0 where
+  pub few : g .count ≤ 64
+  pub numbers : All (λ s. All (Below n) (claimFields (claim s))) (map sidedOf (records g))
+
+-- every name in the claims is placed, and each name that is placed is at one of n elements
+pub record Seated (n : ℕ) (places : List ℕ) (g : Records) : Type 0 where
+  pub placed : allSeated places (map sidedOf (records g)) ≡ true
+  pub inside : (a : ℕ) → All (λ d. d < n) (seatsOf places a)
+
+-- the same of one claim
+pub record Fit (n : ℕ) (places : List ℕ) (c : Claim) : Type 0 where
+  pub numbers : All (Below 256) (claimFields c)
+  pub placed : All (λ a. isSeated places a ≡ true) (names c)
+  pub inside : (a : ℕ) → All (λ d. d < n) (seatsOf places a)

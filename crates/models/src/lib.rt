@@ -1,17 +1,20 @@
 // A model worked out as sets of 32 bits: its lines are told one by one, the elements of each line of the concept table are worked out, and
 // the first claim that the model gets wrong is found. The caller holds the model in arrays of numbers and lends them.
 ghost use mathlib.Core.Path.{_≡_};
-ghost use mathlib.Core.Bool.{_&&_, _||_, not};
+ghost use mathlib.Core.Bool.{true, _&&_, _||_, not};
 ghost use Prim.Native.Nat.{ℕ, _+_, _*_, _<_};
 ghost use lib.Dec.{eqb, ltb};
 ghost use lib.ListN.{length, getD};
-ghost use Rattle.alc.specs.Lists.{All};
+ghost use mathlib.Core.List.{map};
+ghost use Rattle.alc.specs.Lists.{All, every, firstAt};
 ghost use Rattle.alc.specs.Meaning.{someBelow, everyBelow};
 ghost use Rattle.alc.specs.Table.{fieldsBy};
-ghost use Rattle.alc.specs.Shown.{kindAt};
+ghost use Rattle.alc.specs.Claims.{claimFields, names};
+ghost use Rattle.alc.specs.Shown.{kindAt, tableOf, claimOf, sidedOf, records};
 ghost use Rattle.models.specs.Bit.{bit, common};
-ghost use Rattle.models.specs.Extent.{extent as extentOf};
-ghost use Rattle.models.specs.Shown.{worldOf, edgeIn, Below, Sized, SetAdded, PlaceSet, AtomSet, EdgeSet};
+ghost use Rattle.models.specs.Extent.{extent as extentOf, Extended};
+ghost use Rattle.models.specs.Truth.{truthIn, wrongIn};
+ghost use Rattle.models.specs.Shown.{worldOf, edgeIn, seatOf, isSeated, allSeated, Below, Sized, SetAdded, PlaceSet, AtomSet, EdgeSet, Tabled, Claimed, Seated, Fit};
 
 // Element d is in the set.
 fn in_set(x: u32, d: u8) -> bool
@@ -179,4 +182,153 @@ fn extent(
         7 => all_in(size, edges, alc::Role(x), set_of(ext, alc::Concept(y))),
         _ => full(size),
     }
+}
+
+// The elements of every line of the table, of which there are `count`: an entry's set is worked out from those above it.
+pub fn extensions(
+    kinds: &[u8; 256],
+    firsts: &[u8; 256],
+    seconds: &[u8; 256],
+    count: usize,
+    size: u8,
+    atoms: &[u32; 64],
+    edges: &[u32; 512],
+) -> [u32; 256]
+    requires { ⌜ Tabled (now kinds) (now firsts) (now seconds) count ⌝ }
+    requires { ⌜ Sized size ⌝ }
+    ensures { λ r. ⌜ Extended r count (tableOf (now (kinds .entry)) (now (firsts .entry)) (now (seconds .entry)) count) (worldOf size (now (atoms .entry)) (now (edges .entry))) ⌝ }
+{
+    let mut ext = [0u32; 256];
+    let mut i: usize = 0;
+    while i < count {
+        let set = extent(kinds[i], firsts[i], seconds[i], size, &ext, atoms, edges);
+        ext[i] = inside(size, set);
+        i += 1;
+    }
+    ext
+}
+
+// The element at which a placed name is.
+fn seat(places: &[u8; 64], a: alc::Name) -> u8
+    requires { ⌜ (a .0 < 64) × (isSeated (now places) (a .0) ≡ true) ⌝ }
+    ensures { λ r. ⌜ r ≡ seatOf (now (places .entry)) (a .0) ⌝ }
+{
+    places[a.0 as usize] - 1
+}
+
+// The name is placed.
+fn seated(places: &[u8; 64], a: alc::Name) -> bool
+    requires { ⌜ a .0 < 64 ⌝ }
+    ensures { λ r. ⌜ r ≡ isSeated (now (places .entry)) (a .0) ⌝ }
+{
+    places[a.0 as usize] != 0
+}
+
+// Every element of a size that is in the one set is in the other.
+fn within(size: u8, x: u32, y: u32) -> bool
+    requires { ⌜ Sized size ⌝ }
+    ensures { λ r. ⌜ r ≡ everyBelow size (λ d. not (bit x d) || bit y d) ⌝ }
+{
+    !meets(x, outside(size, y))
+}
+
+// The pair is in the role.
+fn linked(edges: &[u32; 512], r: alc::Role, d: u8, e: u8) -> bool
+    requires { ⌜ (r .0 < 16) × (d < 32) × (e < 32) ⌝ }
+    ensures { λ q. ⌜ q ≡ edgeIn (now (edges .entry)) (r .0) d e ⌝ }
+{
+    in_set(edges[(r.0 as usize) * 32 + (d as usize)], e)
+}
+
+// The claim is true in the model.
+fn holds(c: alc::Claim, size: u8, ext: &[u32; 256], places: &[u8; 64], edges: &[u32; 512]) -> bool
+    requires { ⌜ Sized size ⌝ }
+    requires { ⌜ Fit size (now places) (claimOf c) ⌝ }
+    ensures { λ r. ⌜ r ≡ truthIn size (now (ext .entry)) (now (places .entry)) (now (edges .entry)) (claimOf c) ⌝ }
+{
+    let kind = c.kind;
+    if kind == 1 {
+        return in_set(set_of(ext, c.i), seat(places, c.a));
+    }
+    if kind == 2 {
+        return within(size, set_of(ext, c.i), set_of(ext, c.j));
+    }
+    linked(edges, c.role, seat(places, c.a), seat(places, c.b))
+}
+
+// The model gets the claim wrong: a left claim that is false, or a right claim that is true.
+fn wrong(c: alc::Claim, size: u8, ext: &[u32; 256], places: &[u8; 64], edges: &[u32; 512]) -> bool
+    requires { ⌜ Sized size ⌝ }
+    requires { ⌜ Fit size (now places) (claimOf c) ⌝ }
+    ensures { λ r. ⌜ r ≡ wrongIn size (now (ext .entry)) (now (places .entry)) (now (edges .entry)) (sidedOf c) ⌝ }
+{
+    let side = c.side;
+    let t = holds(c, size, ext, places, edges);
+    if side == 1 {
+        return !t;
+    }
+    t
+}
+
+// The place of the first claim that the model gets wrong, or the count of the claims. `ext` has the elements of each line of the table.
+pub fn first_wrong(
+    claims: alc::Goal,
+    size: u8,
+    ext: &[u32; 256],
+    places: &[u8; 64],
+    edges: &[u32; 512],
+) -> usize
+    requires { ⌜ Sized size ⌝ }
+    requires { ⌜ Claimed 256 claims ⌝ }
+    requires { ⌜ Seated size (now places) claims ⌝ }
+    ensures { λ r. ⌜ r ≡ firstAt (wrongIn size (now (ext .entry)) (now (places .entry)) (now (edges .entry))) (map sidedOf (records claims)) ⌝ }
+{
+    let n = claims.count;
+    let mut i: usize = 0;
+    let place = loop {
+        if i == n {
+            break n;
+        }
+        let c = claims.claims[i];
+        if wrong(c, size, ext, places, edges) {
+            break i;
+        }
+        i += 1;
+    };
+    place
+}
+
+// Every name in the claim is placed.
+fn placed(c: alc::Claim, places: &[u8; 64]) -> bool
+    requires { ⌜ All (Below 256) (claimFields (claimOf c)) ⌝ }
+    ensures { λ r. ⌜ r ≡ every (isSeated (now (places .entry))) (names (claimOf c)) ⌝ }
+{
+    let kind = c.kind;
+    if kind == 1 {
+        return seated(places, c.a);
+    }
+    if kind == 2 {
+        return true;
+    }
+    if seated(places, c.a) {
+        return seated(places, c.b);
+    }
+    false
+}
+
+// Every name in the claims is placed.
+pub fn all_placed(claims: alc::Goal, places: &[u8; 64]) -> bool
+    requires { ⌜ Claimed 256 claims ⌝ }
+    ensures { λ r. ⌜ r ≡ allSeated (now (places .entry)) (map sidedOf (records claims)) ⌝ }
+{
+    let n = claims.count;
+    let mut i: usize = 0;
+    while i < n {
+        let c = claims.claims[i];
+        if !placed(c, places) {
+            return false;
+        }
+        i += 1;
+    }
+    true
 }
