@@ -12,6 +12,7 @@ use lib.Pow.{pow-pos, pow-mono, pow-lt, pow-add, shl-exact, shl-shr, high, ones-
 use lib.Bits.{bitAnd, bitOr, bitXor, and-shr, or-shr, xor-shr, and-mod, or-mod, xor-mod, and-lt}
 use borrow.Author.Tests.{ltb-true, ltb-false, lt-ltb, le-ltb, eq-eqb, ne-eqb, eqb-true, eqb-false}
 use Rattle.models.specs.Bit.{bit}
+use Rattle.models.proofs.Bools.{and-on, and-off, or-none}
 use Rattle.alc.specs.Meaning.{someBelow}
 
 abbrev differs : Bool → Bool → Bool
@@ -60,14 +61,6 @@ minus false b = refl
 
 pub bit-minus : (a b d : ℕ) → bit (bitAnd a (bitXor a b)) d ≡ (bit a d && not (bit b d))
 bit-minus a b d = bit-and a (bitXor a b) d ∙ ap (λ (t : Bool). bit a d && t) (bit-xor a b d) ∙ minus (bit a d) (bit b d)
-
-pub and-off : (a : Bool) → (a && false) ≡ false
-and-off true = refl
-and-off false = refl
-
-pub or-none : (a : Bool) → (a || false) ≡ a
-or-none true = refl
-or-none false = refl
 
 pub bit-zero : (d : ℕ) → bit 0 d ≡ false
 unfolding bit
@@ -167,10 +160,6 @@ ltb-more e d h = go (ltb e d) refl
     go : (t : Bool) → ltb e d ≡ t → ltb e (d + 1) ≡ ltb e d
     go true t = lt-ltb e (d + 1) (omega (arith, ltb-true e d t)) ∙ sym t
     go false t = le-ltb e (d + 1) (omega (arith, ltb-false e d t)) ∙ sym t
-
-pub and-on : (b : Bool) → (b && true) ≡ b
-and-on true = refl
-and-on false = refl
 
 module _ (f : ℕ → Bool) (out next d : ℕ) (b : Bool) (now : b ≡ f d)
     (before : (e : ℕ) → bit out e ≡ (ltb e d && f e))

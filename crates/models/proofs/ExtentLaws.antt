@@ -18,7 +18,7 @@ use Rattle.alc.specs.Shown.{kindAt}
 use Rattle.models.specs.Bit.{bit, common}
 use Rattle.models.specs.Extent.{extent}
 use Rattle.models.specs.Shown.{edgeIn}
-use Rattle.models.proofs.BitLaws.{and-off}
+use Rattle.models.proofs.Bools.{and-off}
 
 pub some-same : (n : ℕ) (f g : ℕ → Bool) → ((e : ℕ) → e < n → f e ≡ g e) → someBelow n f ≡ someBelow n g
 some-same zero f g h = refl

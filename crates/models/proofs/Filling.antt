@@ -29,10 +29,10 @@ zeros (suc n) zero = refl
 zeros (suc n) (suc k) = zeros n k
 
 -- line i of the columns has its numbers in range
-pub line-fits : (ks xs ys : List ℕ) (n : ℕ) → Tabled ks xs ys n → (i : ℕ) → i < n → All (Below 256) (entryFields (lineAt ks xs ys i))
+pub line-fits : (ks xs ys : List ℕ) (n : ℕ) → Tabled ks xs ys n → (i : ℕ) → i < n → All (Below 256 0) (entryFields (lineAt ks xs ys i))
 line-fits ks xs ys n t i h =
-    subst (λ (e : Entry). All (Below 256) (entryFields e)) (table-at ks xs ys n i (entryOf Kind.top 0 0) h)
-    (All-map (below-more i 256 (omega (arith, t .few))) (entryFields (entry (tableOf ks xs ys n) i)) (t .ranged i))
+    subst (λ (e : Entry). All (Below 256 0) (entryFields e)) (table-at ks xs ys n i (entryOf Kind.top 0 0) h)
+    (All-map (below-more i 256 0 (omega (arith, t .few))) (entryFields (entry (tableOf ks xs ys n) i)) (t .ranged i))
 
 -- the sets of the lines below i are known, and that of line i, which is e, is put at i
 module _ (W : World) (T : Table) (wf : WellFormed T) (ext : List ℕ) (i res new : ℕ) (e : Entry) (at : entry T i ≡ e)

@@ -19,6 +19,7 @@ use Rattle.alc.specs.Shown.{claimOf, sidedOf, records, blank}
 use Rattle.alc.specs.declared.Claim.{Claim as Record}
 use Rattle.alc.specs.declared.Goal.{Goal as Records}
 use Rattle.alc.proofs.Goal.{the-type}
+use Rattle.models.proofs.Bools.{and-true}
 use Rattle.models.specs.Shown.{Below, isSeated, Claimed, Seated, Fit}
 
 -- what a function is told of a goal that it is passed
@@ -38,13 +39,9 @@ module _ {A : Type 0} (P : A → Type 0) (z : A) where
   All-at (x ∷ l) h zero b = h .0
   All-at (x ∷ l) h (suc k) b = All-at l (h .1) k (omega arith)
 
-every-All : {A : Type 0} (p : A → Bool) (l : List A) → every p l ≡ true → All (λ x. p x ≡ true) l
+pub every-All : {A : Type 0} (p : A → Bool) (l : List A) → every p l ≡ true → All (λ x. p x ≡ true) l
 every-All p [] h = tt
-every-All p (x ∷ l) h = go (p x) refl h (every-All p l)
-  where
-    go : (b : Bool) → p x ≡ b → (p x && every p l) ≡ true → (every p l ≡ true → All (λ x. p x ≡ true) l) → (p x ≡ true) × All (λ x. p x ≡ true) l
-    go true e h f = (e, f (rw e at h))
-    go false e h f = absurd (false≢true (rw e at h))
+every-All p (x ∷ l) h = let b = and-true (p x) (every p l) h in (b .0, every-All p l (b .1))
 
 module _ (g : Records) (few : g .count ≤ 64) (long : length (g .claims) ≡ 64) where
   count-is : length (map sidedOf (records g)) ≡ g .count
@@ -67,7 +64,7 @@ module _ (g : Records) (few : g .count ≤ 64) (long : length (g .claims) ≡ 64
 
 pub fit-at : (g : Records) (n : ℕ) (places : List ℕ) → length (g .claims) ≡ 64 → Claimed 256 g → Seated n places g → (k : ℕ) → k < g .count → Fit n places (claimOf (getD (g .claims) k blank))
 fit-at g n places long c s k l = record {
-  numbers = claim-at g (c .few) long (λ d. All (Below 256) (claimFields d)) (c .numbers) k l;
+  numbers = claim-at g (c .few) long (λ d. All (Below 256 0) (claimFields d)) (c .numbers) k l;
   placed =
       let d = claimOf (getD (g .claims) k blank) in
       every-All (isSeated places) (names d)

@@ -1,3 +1,6 @@
+-- The laws behind the functions' proofs. For callers: `Facts`, what the lines of a model say and what the arrays tell; `InRange`, what the
+-- functions ask of the table and of the claims.
+pub mod Bools
 pub mod BitLaws
 pub mod Stores
 pub mod ExtentLaws
@@ -5,3 +8,6 @@ pub mod Trees
 pub mod Filling
 pub mod ClaimLaws
 pub mod Goals
+pub mod Agree
+pub mod Facts
+pub mod InRange

@@ -15,11 +15,7 @@ use borrow.Author.Tests.{eq-eqb, ne-eqb, ltb-true, ltb-false}
 use Rattle.alc.specs.Lists.{isEmpty}
 use Rattle.models.specs.Bit.{bit}
 use Rattle.models.specs.Shown.{atomIn, edgeIn, seats, seatsOf, PlaceSet, worldOf, withAtom, withEdge}
-use Rattle.models.proofs.BitLaws.{or-none, and-off}
-
-and-assoc : (a b c : Bool) → ((a && b) && c) ≡ (a && (b && c))
-and-assoc true b c = refl
-and-assoc false b c = refl
+use Rattle.models.proofs.Bools.{and-off, and-assoc, or-none}
 
 index-eqb : (r d s f : ℕ) → d < 32 → f < 32 → eqb (r * 32 + d) (s * 32 + f) ≡ (eqb r s && eqb d f)
 index-eqb r d s f h k = go (ℕ-discrete r s) (ℕ-discrete d f)

@@ -22,7 +22,7 @@ module _ {A : Type 0} where
 pub formed : (T : Table) → Ranged T → WellFormed T
 formed T r i = go (entryFields (entry T i)) (r i)
   where
-    go : (fs : List Field) → All (Below i) fs → All (λ p. p < i) (concepts fs)
+    go : (fs : List Field) → All (Below i 0) fs → All (λ p. p < i) (concepts fs)
     go [] h = tt
     go (role r ∷ fs) h = go fs (h .1)
     go (atom A ∷ fs) h = go fs (h .1)
@@ -31,14 +31,14 @@ formed T r i = go (entryFields (entry T i)) (r i)
     go (size n ∷ fs) h = go fs (h .1)
     go (concept p ∷ fs) h = (h .0, go fs (h .1))
 
--- what is below its limit with n lines is so with more
-pub below-more : (n m : ℕ) → n ≤ m → (f : Field) → Below n f → Below m f
-below-more n m l (role r) h = h
-below-more n m l (atom A) h = h
-below-more n m l (name a) h = h
-below-more n m l (element d) h = h
-below-more n m l (size k) h = h
-below-more n m l (concept i) h = omega arith
+-- what is in range with n lines is so with more
+pub below-more : (n m k : ℕ) → n ≤ m → (f : Field) → Below n k f → Below m k f
+below-more n m k l (role r) h = h
+below-more n m k l (atom A) h = h
+below-more n m k l (name a) h = h
+below-more n m k l (element d) h = h
+below-more n m k l (size s) h = h
+below-more n m k l (concept i) h = omega arith
 
 shape-same : (k : Kind) (x y : ℕ) (t u : ℕ → Tree) → All (λ p. t p ≡ u p) (concepts (fieldsBy k x y)) → shape k x y t ≡ shape k x y u
 shape-same Kind.top x y t u h = refl

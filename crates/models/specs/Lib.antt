@@ -4,3 +4,4 @@ pub mod Bit
 pub mod Extent
 pub mod Shown
 pub mod Truth
+pub mod Told

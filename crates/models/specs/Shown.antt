@@ -80,18 +80,18 @@ pub record EdgeSet (old new : List ℕ) (r d e : ℕ) (fresh : Bool) : Type 0 wh
   pub answer : fresh ≡ not (edgeIn old r d e)
   pub world : (n : ℕ) (atoms : List ℕ) → worldOf n atoms new ≡ withEdge (worldOf n atoms old) r d e
 
--- the number is below its limit, with n lines in the table and up to 32 elements
-abbrev pub Below : ℕ → Field → Type 0
-Below n (role r) = r < 16
-Below n (atom A) = A < 64
-Below n (name a) = a < 64
-Below n (element d) = d < 32
-Below n (size k) = k ≤ 32
-Below n (concept i) = i < n
+-- the number is in its range, with n lines in the table and k elements (`inRange` as a fact)
+abbrev pub Below : ℕ → ℕ → Field → Type 0
+Below n k (role r) = r < 16
+Below n k (atom A) = A < 64
+Below n k (name a) = a < 64
+Below n k (element d) = d < k
+Below n k (size m) = (1 ≤ m) × (m ≤ 32)
+Below n k (concept i) = i < n
 
--- each line's numbers are below their limits, and its parts are lines above it
+-- each line's numbers are in range, and its parts are lines above it
 abbrev pub Ranged : Table → Type 0
-Ranged T = (i : ℕ) → All (Below i) (entryFields (entry T i))
+Ranged T = (i : ℕ) → All (Below i 0) (entryFields (entry T i))
 
 -- 1 to 32 elements
 pub record Sized (n : ℕ) : Type 0 where
@@ -106,15 +106,22 @@ pub record Tabled (ks xs ys : List ℕ) (n : ℕ) : Type 0 where
 -- up to 64 claims, with their numbers in range of a table of n lines
 pub record Claimed (n : ℕ) (g : Records) : Type 0 where
   pub few : g .count ≤ 64
-  pub numbers : All (λ s. All (Below n) (claimFields (claim s))) (map sidedOf (records g))
+  pub numbers : All (λ s. All (Below n 0) (claimFields (claim s))) (map sidedOf (records g))
 
 -- every name in the claims is placed, and each name that is placed is at one of n elements
 pub record Seated (n : ℕ) (places : List ℕ) (g : Records) : Type 0 where
   pub placed : allSeated places (map sidedOf (records g)) ≡ true
   pub inside : (a : ℕ) → All (λ d. d < n) (seatsOf places a)
 
--- the same of one claim
+-- what the table, the size, the places and the claims are asked to be
+pub record Ready (ks xs ys : List ℕ) (n size : ℕ) (places : List ℕ) (g : Records) : Type 0 where
+  pub table : Tabled ks xs ys n
+  pub sized : Sized size
+  pub claims : Claimed n g
+  pub seats : Seated size places g
+
+-- one claim's numbers are in range, and its names are placed
 pub record Fit (n : ℕ) (places : List ℕ) (c : Claim) : Type 0 where
-  pub numbers : All (Below 256) (claimFields c)
+  pub numbers : All (Below 256 0) (claimFields c)
   pub placed : All (λ a. isSeated places a ≡ true) (names c)
   pub inside : (a : ℕ) → All (λ d. d < n) (seatsOf places a)

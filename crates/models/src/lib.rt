@@ -9,12 +9,12 @@ ghost use mathlib.Core.List.{map};
 ghost use Rattle.alc.specs.Lists.{All, every, firstAt};
 ghost use Rattle.alc.specs.Meaning.{someBelow, everyBelow};
 ghost use Rattle.alc.specs.Table.{fieldsBy};
-ghost use Rattle.alc.specs.Claims.{claimFields, names};
+ghost use Rattle.alc.specs.Claims.{claimFields, names, good};
 ghost use Rattle.alc.specs.Shown.{kindAt, tableOf, claimOf, sidedOf, records};
 ghost use Rattle.models.specs.Bit.{bit, common};
 ghost use Rattle.models.specs.Extent.{extent as extentOf, Extended};
 ghost use Rattle.models.specs.Truth.{truthIn, wrongIn};
-ghost use Rattle.models.specs.Shown.{worldOf, edgeIn, seatOf, isSeated, allSeated, Below, Sized, SetAdded, PlaceSet, AtomSet, EdgeSet, Tabled, Claimed, Seated, Fit};
+ghost use Rattle.models.specs.Shown.{worldOf, edgeIn, seatOf, isSeated, allSeated, interpShown, Below, Sized, SetAdded, PlaceSet, AtomSet, EdgeSet, Tabled, Claimed, Seated, Ready, Fit};
 
 // Element d is in the set.
 fn in_set(x: u32, d: u8) -> bool
@@ -169,7 +169,7 @@ fn extent(
     edges: &[u32; 512],
 ) -> u32
     requires { ⌜ Sized size ⌝ }
-    requires { ⌜ All (Below 256) (fieldsBy (kindAt kind) x y) ⌝ }
+    requires { ⌜ All (Below 256 0) (fieldsBy (kindAt kind) x y) ⌝ }
     ensures { λ r. ⌜ ((d : ℕ) → d < size → bit r d ≡ extentOf (worldOf size (now (atoms .entry)) (now (edges .entry))) (kindAt kind) x y (λ p. bit (getD (now (ext .entry)) p 0)) d) ⌝ }
 {
     match kind {
@@ -300,7 +300,7 @@ pub fn first_wrong(
 
 // Every name in the claim is placed.
 fn placed(c: alc::Claim, places: &[u8; 64]) -> bool
-    requires { ⌜ All (Below 256) (claimFields (claimOf c)) ⌝ }
+    requires { ⌜ All (Below 256 0) (claimFields (claimOf c)) ⌝ }
     ensures { λ r. ⌜ r ≡ every (isSeated (now (places .entry))) (names (claimOf c)) ⌝ }
 {
     let kind = c.kind;
@@ -331,4 +331,23 @@ pub fn all_placed(claims: alc::Goal, places: &[u8; 64]) -> bool
         i += 1;
     }
     true
+}
+
+// The place of the first claim that the model gets wrong by the meaning of the concepts, or the count of the claims.
+pub fn countered(
+    kinds: &[u8; 256],
+    firsts: &[u8; 256],
+    seconds: &[u8; 256],
+    count: usize,
+    size: u8,
+    places: &[u8; 64],
+    atoms: &[u32; 64],
+    edges: &[u32; 512],
+    claims: alc::Goal,
+) -> usize
+    requires { ⌜ Ready (now kinds) (now firsts) (now seconds) count size (now places) claims ⌝ }
+    ensures { λ r. ⌜ r ≡ firstAt (good (tableOf (now (kinds .entry)) (now (firsts .entry)) (now (seconds .entry)) count) (interpShown size (now (places .entry)) (now (atoms .entry)) (now (edges .entry)))) (map sidedOf (records claims)) ⌝ }
+{
+    let ext = extensions(kinds, firsts, seconds, count, size, atoms, edges);
+    first_wrong(claims, size, &ext, places, edges)
 }

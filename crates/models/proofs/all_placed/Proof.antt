@@ -44,7 +44,7 @@ placed-requires : tie.Need-placed-requires Inv-loop μ-loop
 placed-requires c κs =
     let l = c .before .before in
     let s = l .before in
-    claim-at (s .args .t1) (s .pre .few) (goal-length (s .args .t1) _ (s .good .0)) (λ d. All (Below 256) (claimFields d)) (s .pre .numbers) (l .loop .i) (c .before .loop-test .taken)
+    claim-at (s .args .t1) (s .pre .few) (goal-length (s .args .t1) _ (s .good .0)) (λ d. All (Below 256 0) (claimFields d)) (s .pre .numbers) (l .loop .i) (c .before .loop-test .taken)
 
 returns : tie.Need-returns Inv-loop μ-loop
 returns c =

@@ -4,7 +4,8 @@ use native.Mathlib.Omega.{arith}
 use mathlib.Core.Path.{sym, _∙_}
 use borrow.Author.Needs.{needs}
 use Rattle.models.specs.Bit.{bit}
-use Rattle.models.proofs.BitLaws.{bit-or, bit-one, or-none}
+use Rattle.models.proofs.Bools.{or-none}
+use Rattle.models.proofs.BitLaws.{bit-or, bit-one}
 use Rattle.models.proofs.marked.Statement.{statement}
 use Rattle.models.proofs.marked.Tie as tie
 
