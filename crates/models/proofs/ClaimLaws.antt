@@ -2,14 +2,14 @@
 -- Assumes nothing.
 use Prim.Native.Nat.{ℕ, zero, suc, _-_, _≤_, _<_}
 use native.Mathlib.Omega.{arith}
-use mathlib.Core.Bool.{Bool, true, false, not, false≢true}
+use mathlib.Core.Bool.{true, false, not, false≢true}
 use mathlib.Core.List.{List, [], _∷_}
 use mathlib.Core.Path.{_≡_, refl, ap}
 use lib.Dec.{eqb, eqb·suc-zero}
 use lib.ListN.{getD}
 use borrow.Author.Tests.{eq-eqb, ne-eqb}
 use Rattle.alc.specs.Lists.{All, isEmpty}
-use Rattle.alc.specs.Claims.{Claim, is, sub, link}
+use Rattle.alc.specs.Claims.{is, sub, link}
 use Rattle.alc.specs.Shown.{claimOf}
 use Rattle.alc.specs.declared.Claim.{Claim as Record}
 use Rattle.models.specs.Shown.{seats, seatsOf, seatOf, isSeated}

@@ -8,13 +8,13 @@ use mathlib.Core.List.{List, [], _∷_, _++_, append-assoc}
 use mathlib.Core.Path.{_≡_, refl, sym, ap, ap₂, subst, _∙_, fun-ext}
 use lib.Dec.{eqb, ltb}
 use lib.ListN.{getD, replicate}
-use borrow.Author.Tests.{eq-eqb, ne-eqb, eqb-true, not-true, not-false}
+use borrow.Author.Tests.{eq-eqb, ne-eqb, eqb-true}
 use Rattle.alc.specs.Lists.{All, any, every, isEmpty}
-use Rattle.alc.specs.Meaning.{World, Interp}
+use Rattle.alc.specs.Meaning.{World}
 use Rattle.alc.specs.Claims.{Sided, claim, names}
-use Rattle.alc.specs.Model.{Fact, Fact-discrete, places, has, edge, isSaid, placesOf, placesIn, isPlaced, repeats, interpOf, allPlaced}
+use Rattle.alc.specs.Model.{Fact, Fact-discrete, places, has, edge, isSaid, placesOf, placesIn, repeats, interpOf, allPlaced}
 use Rattle.models.specs.Bit.{bit}
-use Rattle.models.specs.Shown.{atomIn, edgeIn, worldOf, seats, seatsOf, interpShown, allSeated, withAtom, withEdge, PlaceSet, AtomSet, EdgeSet}
+use Rattle.models.specs.Shown.{atomIn, edgeIn, seats, seatsOf, interpShown, allSeated, withAtom, withEdge, PlaceSet, AtomSet, EdgeSet}
 use Rattle.models.specs.Told.{Tells}
 use Rattle.models.proofs.Bools.{and-off, and-true, or-none}
 use Rattle.models.proofs.BitLaws.{bit-zero}

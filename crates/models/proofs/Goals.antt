@@ -4,11 +4,11 @@ use Prim.Native.Nat.{ℕ, zero, suc, _+_, _≤_, _<_}
 use native.Mathlib.Omega.{arith}
 use native.Mathlib.Nat.{not-suc-le-zero, zero-add}
 use native.Mathlib.Numerals.{add-one}
-use mathlib.Core.Bool.{Bool, true, false, cond, _&&_, false≢true}
+use mathlib.Core.Bool.{Bool, true, false, cond}
 use mathlib.Core.List.{List, [], _∷_, map}
-use mathlib.Core.Path.{_≡_, refl, sym, ap, ap₂, subst, _∙_}
+use mathlib.Core.Path.{_≡_, refl, sym, ap, subst, _∙_}
 use lib.Dec.{eqb}
-use lib.ListN.{length, getD, take, drop, length-map, List·getD-map}
+use lib.ListN.{length, getD, drop, length-map, List·getD-map}
 use lib.Seq.{length-take-le, getD-take, drop-cons, drop-length}
 use mir.Val.{Val}
 use denote.Laws.{Is}

@@ -17,20 +17,20 @@ ghost use Rattle.models.specs.Truth.{truthIn, wrongIn};
 ghost use Rattle.models.specs.Shown.{worldOf, edgeIn, seatOf, isSeated, allSeated, interpShown, Below, Sized, SetAdded, PlaceSet, AtomSet, EdgeSet, Tabled, Claimed, Seated, Ready, Fit};
 
 // Element d is in the set.
-fn in_set(x: u32, d: u8) -> bool
-    requires { ⌜ d < 32 ⌝ }
-    ensures { λ r. ⌜ r ≡ bit x d ⌝ }
+fn in_set(x: u32, d: alc::Element) -> bool
+    requires { ⌜ d .0 < 32 ⌝ }
+    ensures { λ r. ⌜ r ≡ bit x (d .0) ⌝ }
 {
-    (x >> d) % 2 == 1
+    (x >> d.0) % 2 == 1
 }
 
 // The set, and d in it besides where `on` says so.
-fn marked(x: u32, d: u8, on: bool) -> u32
-    requires { ⌜ d < 32 ⌝ }
-    ensures { λ r. ⌜ ((e : ℕ) → bit r e ≡ (bit x e || (on && eqb d e))) ⌝ }
+fn marked(x: u32, d: alc::Element, on: bool) -> u32
+    requires { ⌜ d .0 < 32 ⌝ }
+    ensures { λ r. ⌜ ((e : ℕ) → bit r e ≡ (bit x e || (on && eqb (d .0) e))) ⌝ }
 {
     if on {
-        return x | (1 << d);
+        return x | (1 << d.0);
     }
     x
 }
@@ -69,9 +69,9 @@ fn outside(size: u8, x: u32) -> u32
 }
 
 // Puts element d into the set at i, and says whether it was not there.
-fn add_to(sets: &mut [u32], i: usize, d: u8) -> bool
-    requires { ⌜ (i < length (now sets)) × (d < 32) ⌝ }
-    ensures { λ r. ⌜ SetAdded (now (sets .entry)) (now (sets .exit)) i d r ⌝ }
+fn add_to(sets: &mut [u32], i: usize, d: alc::Element) -> bool
+    requires { ⌜ (i < length (now sets)) × (d .0 < 32) ⌝ }
+    ensures { λ r. ⌜ SetAdded (now (sets .entry)) (now (sets .exit)) i (d .0) r ⌝ }
 {
     let old = sets[i];
     sets[i] = marked(old, d, true);
@@ -84,6 +84,7 @@ pub fn set_place(places: &mut [u8; 64], a: alc::Name, d: alc::Element) -> bool
     ensures { λ r. ⌜ PlaceSet (now (places .entry)) (now (places .exit)) (a .0) (d .0) r ⌝ }
 {
     let i = a.0 as usize;
+    // As a slice the array has a length that the proof can name.
     let all: &[u8] = places;
     if all[i] != 0 {
         return false;
@@ -97,7 +98,7 @@ pub fn set_atom(atoms: &mut [u32; 64], a: alc::Atom, d: alc::Element) -> bool
     requires { ⌜ (a .0 < 64) × (d .0 < 32) ⌝ }
     ensures { λ r. ⌜ AtomSet (now (atoms .entry)) (now (atoms .exit)) (a .0) (d .0) r ⌝ }
 {
-    add_to(atoms, a.0 as usize, d.0)
+    add_to(atoms, a.0 as usize, d)
 }
 
 // `edge r d e`: puts the pair into the role, and says whether it was not there.
@@ -105,7 +106,7 @@ pub fn set_edge(edges: &mut [u32; 512], r: alc::Role, d: alc::Element, e: alc::E
     requires { ⌜ (r .0 < 16) × (d .0 < 32) × (e .0 < 32) ⌝ }
     ensures { λ q. ⌜ EdgeSet (now (edges .entry)) (now (edges .exit)) (r .0) (d .0) (e .0) q ⌝ }
 {
-    add_to(edges, (r.0 as usize) * 32 + (d.0 as usize), e.0)
+    add_to(edges, (r.0 as usize) * 32 + (d.0 as usize), e)
 }
 
 // The elements of a size with an edge of the role into the set.
@@ -119,7 +120,7 @@ fn reaching(size: u8, edges: &[u32; 512], r: alc::Role, s: u32) -> u32
     let mut d: u8 = 0;
     while d < size {
         let to = edges[row + (d as usize)];
-        out = marked(out, d, meets(to, s));
+        out = marked(out, alc::Element(d), meets(to, s));
         d += 1;
     }
     out
@@ -209,11 +210,12 @@ pub fn extensions(
 }
 
 // The element at which a placed name is.
-fn seat(places: &[u8; 64], a: alc::Name) -> u8
+fn seat(places: &[u8; 64], a: alc::Name) -> alc::Element
     requires { ⌜ (a .0 < 64) × (isSeated (now places) (a .0) ≡ true) ⌝ }
-    ensures { λ r. ⌜ r ≡ seatOf (now (places .entry)) (a .0) ⌝ }
+    ensures { λ r. ⌜ r .0 ≡ seatOf (now (places .entry)) (a .0) ⌝ }
 {
-    places[a.0 as usize] - 1
+    let d = places[a.0 as usize] - 1;
+    alc::Element(d)
 }
 
 // The name is placed.
@@ -233,11 +235,11 @@ fn within(size: u8, x: u32, y: u32) -> bool
 }
 
 // The pair is in the role.
-fn linked(edges: &[u32; 512], r: alc::Role, d: u8, e: u8) -> bool
-    requires { ⌜ (r .0 < 16) × (d < 32) × (e < 32) ⌝ }
-    ensures { λ q. ⌜ q ≡ edgeIn (now (edges .entry)) (r .0) d e ⌝ }
+fn linked(edges: &[u32; 512], r: alc::Role, d: alc::Element, e: alc::Element) -> bool
+    requires { ⌜ (r .0 < 16) × (d .0 < 32) × (e .0 < 32) ⌝ }
+    ensures { λ q. ⌜ q ≡ edgeIn (now (edges .entry)) (r .0) (d .0) (e .0) ⌝ }
 {
-    in_set(edges[(r.0 as usize) * 32 + (d as usize)], e)
+    in_set(edges[(r.0 as usize) * 32 + (d.0 as usize)], e)
 }
 
 // The claim is true in the model.

@@ -34,7 +34,7 @@ returns c =
     let a = c .before .before .before .before .args in
     record {
       answer = ap not (c .in-set .ensures);
-      sets = set-at (now (a .sets)) (a .i) (c .before .marked .result) (omega arith) (a .d) (c .before .marked .ensures);
+      sets = set-at (now (a .sets)) (a .i) (c .before .marked .result) (omega arith) (a .d .0) (c .before .marked .ensures);
     }
 
 pub add-to-spec : {M : Type 1} → statement M

@@ -1,6 +1,6 @@
 -- `models::first_wrong` meets its contract. The invariant: the first wrong claim is i claims behind the first of those from the i-th on.
 -- The measure is what is left of the claims. Assumes nothing.
-use Prim.Native.Nat.{ℕ, _+_, _-_, _≤_}
+use Prim.Native.Nat.{_+_, _-_, _≤_}
 use native.Mathlib.Omega.{arith}
 use mathlib.Core.List.{map}
 use mathlib.Core.Path.{_≡_, sym, _∙_}

@@ -1,9 +1,9 @@
 -- `models::holds` meets its contract: the kind's number says which claim the record is, and each kind is read off the sets, the places and
 -- the edges. Assumes nothing.
-use Prim.Native.Nat.{ℕ, _<_}
+use Prim.Native.Nat.{ℕ}
 use native.Mathlib.Omega.{arith}
 use mathlib.Core.Bool.{not, _||_}
-use mathlib.Core.Path.{_≡_, sym, ap, ap₂, subst, _∙_}
+use mathlib.Core.Path.{sym, ap, ap₂, subst, _∙_}
 use denote.Ref.{now}
 use Rattle.alc.specs.Meaning.{everyBelow}
 use Rattle.models.specs.Bit.{bit}

@@ -17,6 +17,9 @@ cast-in-set c = search needs
 mul-in-set : tie.Need-mul-in-set
 mul-in-set c = search needs
 
+cast-in-set-2 : tie.Need-cast-in-set-2
+cast-in-set-2 c = search needs
+
 add-in-set : tie.Need-add-in-set
 add-in-set c = search needs
 
@@ -32,9 +35,9 @@ in-set-requires c κs = search needs
 returns : tie.Need-returns
 unfolding edgeIn
 returns c =
-    let s = c .before .before .before in
+    let s = c .before .before .before .before in
     let a = s .args in
-    c .in-set .ensures ∙ ap (λ (t : Bool). t && bit (getD (now (a .edges)) (a .r .0 * 32 + a .d) 0) (a .e)) (sym (lt-ltb (a .d) 32 (s .pre .1)))
+    c .in-set .ensures ∙ ap (λ (t : Bool). t && bit (getD (now (a .edges)) (a .r .0 * 32 + a .d .0) 0) (a .e .0)) (sym (lt-ltb (a .d .0) 32 (s .pre .1)))
 
 pub linked-spec : {M : Type 1} → statement M
 linked-spec =
@@ -42,6 +45,7 @@ linked-spec =
     (tie.spec
     cast-in-set
     mul-in-set
+    cast-in-set-2
     add-in-set
     mul-in-set-2
     element-copy-out-in-set

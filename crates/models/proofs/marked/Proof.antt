@@ -9,16 +9,19 @@ use Rattle.models.proofs.BitLaws.{bit-or, bit-one}
 use Rattle.models.proofs.marked.Statement.{statement}
 use Rattle.models.proofs.marked.Tie as tie
 
+cast-result : tie.Need-cast-result
+cast-result c = search needs
+
 shl-result : tie.Need-shl-result
 shl-result c = search needs
 
 returns : tie.Need-returns
 returns c = λ e.
-    let a = c .before .args in
-    bit-or (a .x) (1 * 2 ^ a .d % 2 ^ 32) e ∙ rw (bit-one (a .d) e (omega arith), c .if1 .taken)
+    let a = c .before .before .args in
+    bit-or (a .x) (1 * 2 ^ a .d .0 % 2 ^ 32) e ∙ rw (bit-one (a .d .0) e (omega arith), c .before .if1 .taken)
 
 returns-2 : tie.Need-returns-2
 returns-2 c = λ e. rw (c .if1 .left) (sym (or-none (bit (c .before .args .x) e)))
 
 pub marked-spec : {M : Type 1} → statement M
-marked-spec = tie.close (tie.spec shl-result returns returns-2)
+marked-spec = tie.close (tie.spec cast-result shl-result returns returns-2)

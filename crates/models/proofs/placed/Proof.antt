@@ -1,5 +1,5 @@
 -- `models::placed` meets its contract: an `is` has one name, a `link` has two, a `sub` none. Assumes nothing.
-use mathlib.Core.Bool.{Bool, true, false, _&&_}
+use mathlib.Core.Bool.{Bool, true, _&&_}
 use mathlib.Core.Path.{_≡_, sym, ap, subst, _∙_}
 use denote.Ref.{now}
 use Rattle.alc.specs.Lists.{All, every}

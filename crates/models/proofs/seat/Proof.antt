@@ -5,19 +5,19 @@ use borrow.Author.Needs.{needs}
 use Rattle.models.proofs.seat.Statement.{statement}
 use Rattle.models.proofs.seat.Tie as tie
 
-cast-result : tie.Need-cast-result
-cast-result c = search needs
+cast-d : tie.Need-cast-d
+cast-d c = search needs
 
-element-copy-out-result : tie.Need-element-copy-out-result
-element-copy-out-result c = search needs
+element-copy-out-d : tie.Need-element-copy-out-d
+element-copy-out-d c = search needs
 
-sub-result : tie.Need-sub-result
+sub-d : tie.Need-sub-d
 unfolding seatsOf
-sub-result c = placed-some _ (c .before .before .pre .1)
+sub-d c = placed-some _ (c .before .before .pre .1)
 
 returns : tie.Need-returns
 unfolding seatsOf
 returns c = placed-at _
 
 pub seat-spec : {M : Type 1} → statement M
-seat-spec = tie.close (tie.spec cast-result element-copy-out-result sub-result returns)
+seat-spec = tie.close (tie.spec cast-d element-copy-out-d sub-d returns)
