@@ -8,27 +8,6 @@ use borrow.Author.Needs.{needs}
 use Rattle.models.proofs.add_to.Statement.{statement}
 use Rattle.models.proofs.add_to.Tie as tie
 
-mul-old : tie.Need-mul-old
-mul-old c = search needs
-
-slice-read-old : tie.Need-slice-read-old
-slice-read-old c = search needs
-
-marked-requires : tie.Need-marked-requires
-marked-requires c κs = search needs
-
-mul-sets : tie.Need-mul-sets
-mul-sets c = search needs
-
-slice-write-sets : tie.Need-slice-write-sets
-slice-write-sets c = search needs
-
-in-set-requires : tie.Need-in-set-requires
-in-set-requires c κs = search needs
-
-same-length : tie.Need-same-length
-same-length c = search needs
-
 returns : tie.Need-returns
 returns c =
     let a = c .before .before .before .before .args in
@@ -41,11 +20,11 @@ pub add-to-spec : {M : Type 1} → statement M
 add-to-spec =
     tie.close
     (tie.spec
-    mul-old
-    slice-read-old
-    marked-requires
-    mul-sets
-    slice-write-sets
-    in-set-requires
-    same-length
+    (λ c. search needs)
+    (λ c. search needs)
+    (λ c κs. search needs)
+    (λ c. search needs)
+    (λ c. search needs)
+    (λ c κs. search needs)
+    (λ c. search needs)
     returns)

@@ -7,15 +7,6 @@ use Rattle.models.proofs.ExtentLaws.{all-bits}
 use Rattle.models.proofs.all_in.Statement.{statement}
 use Rattle.models.proofs.all_in.Tie as tie
 
-outside-requires : tie.Need-outside-requires
-outside-requires c κs = search needs
-
-reaching-requires : tie.Need-reaching-requires
-reaching-requires c κs = search needs
-
-outside-requires-2 : tie.Need-outside-requires-2
-outside-requires-2 c κs = search needs
-
 returns : tie.Need-returns
 returns c =
     let o = c .before .before in
@@ -23,4 +14,4 @@ returns c =
     all-bits (a .size) (now (a .edges)) (a .r .0) (o .outside .result) (c .before .reaching .result) (c .outside2 .result) (bit (a .s)) (omega arith) (o .outside .ensures) (c .before .reaching .ensures) (c .outside2 .ensures)
 
 pub all-in-spec : {M : Type 1} → statement M
-all-in-spec = tie.close (tie.spec outside-requires reaching-requires outside-requires-2 returns)
+all-in-spec = tie.close (tie.spec (λ c κs. search needs) (λ c κs. search needs) (λ c κs. search needs) returns)

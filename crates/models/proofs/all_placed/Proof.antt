@@ -34,12 +34,6 @@ test places c = ap (λ (d : Claim). every (isSeated places) (names d)) (claim-ba
 loop-holds : tie.Need-loop-holds Inv-loop μ-loop
 loop-holds c = (omega arith, refl)
 
-mul-c : tie.Need-mul-c Inv-loop μ-loop
-mul-c c = search needs
-
-element-copy-out-c : tie.Need-element-copy-out-c Inv-loop μ-loop
-element-copy-out-c c = search needs
-
 placed-requires : tie.Need-placed-requires Inv-loop μ-loop
 placed-requires c κs =
     let l = c .before .before in
@@ -54,12 +48,6 @@ returns c =
     (from (s .args .t1) (s .pre .few) (goal-length (s .args .t1) _ (s .good .0)) (l .loop .i) (c .before .before .before .loop-test .taken))
     (l .loop .inv .1)
     (test (now (s .args .places)) (getD (s .args .t1 .claims) (l .loop .i) blank) ∙ sym (c .before .placed .ensures) ∙ not-true _ (c .if1 .taken)))
-
-add-i : tie.Need-add-i Inv-loop μ-loop
-add-i c = search needs
-
-loop-less : tie.Need-loop-less Inv-loop μ-loop
-loop-less c = search needs
 
 loop-again : tie.Need-loop-again Inv-loop μ-loop
 loop-again c =
@@ -86,11 +74,11 @@ all-placed-spec =
     Inv-loop
     μ-loop
     loop-holds
-    mul-c
-    element-copy-out-c
+    (λ c. search needs)
+    (λ c. search needs)
     placed-requires
     returns
-    add-i
-    loop-less
+    (λ c. search needs)
+    (λ c. search needs)
     loop-again
     returns-2)

@@ -26,36 +26,12 @@ loop-holds c =
     let a = c .args in
     (omega arith, refl, none-filled 256 (tableOf (now (a .kinds)) (now (a .firsts)) (now (a .seconds)) (a .count)) (worldOf (a .size) (now (a .atoms)) (now (a .edges))))
 
-element-copy-out-extent : tie.Need-element-copy-out-extent Inv-loop μ-loop
-element-copy-out-extent c = search needs
-
-element-copy-out-extent-2 : tie.Need-element-copy-out-extent-2 Inv-loop μ-loop
-element-copy-out-extent-2 c = search needs
-
-element-copy-out-extent-3 : tie.Need-element-copy-out-extent-3 Inv-loop μ-loop
-element-copy-out-extent-3 c = search needs
-
 extent-requires : tie.Need-extent-requires Inv-loop μ-loop
 extent-requires c κs =
     let l = c .before .before .before .before .before in
     let s = l .before in
     let a = s .args in
     (s .pre .1, line-fits (now (a .kinds)) (now (a .firsts)) (now (a .seconds)) (a .count) (s .pre .0) (l .loop .i) (c .before .before .before .before .loop-test .taken))
-
-inside-requires : tie.Need-inside-requires Inv-loop μ-loop
-inside-requires c κs = search needs
-
-mul-ext : tie.Need-mul-ext Inv-loop μ-loop
-mul-ext c = search needs
-
-array-write-ext : tie.Need-array-write-ext Inv-loop μ-loop
-array-write-ext c = search needs
-
-add-i : tie.Need-add-i Inv-loop μ-loop
-add-i c = search needs
-
-loop-less : tie.Need-loop-less Inv-loop μ-loop
-loop-less c = search needs
 
 loop-again : tie.Need-loop-again Inv-loop μ-loop
 loop-again c =
@@ -89,14 +65,14 @@ extensions-spec =
     Inv-loop
     μ-loop
     loop-holds
-    element-copy-out-extent
-    element-copy-out-extent-2
-    element-copy-out-extent-3
+    (λ c. search needs)
+    (λ c. search needs)
+    (λ c. search needs)
     extent-requires
-    inside-requires
-    mul-ext
-    array-write-ext
-    add-i
-    loop-less
+    (λ c κs. search needs)
+    (λ c. search needs)
+    (λ c. search needs)
+    (λ c. search needs)
+    (λ c. search needs)
     loop-again
     returns)

@@ -16,38 +16,11 @@ use Rattle.models.proofs.extent.Tie as tie
 atom-of-requires : tie.Need-atom-of-requires
 atom-of-requires c κs = (rw (c .match .keys2) at (c .before .pre .1)) .0
 
-set-of-requires : tie.Need-set-of-requires
-set-of-requires c κs = search needs
-
-outside-requires : tie.Need-outside-requires
-outside-requires c κs = search needs
-
-set-of-requires-2 : tie.Need-set-of-requires-2
-set-of-requires-2 c κs = search needs
-
-set-of-requires-3 : tie.Need-set-of-requires-3
-set-of-requires-3 c κs = search needs
-
-set-of-requires-4 : tie.Need-set-of-requires-4
-set-of-requires-4 c κs = search needs
-
-set-of-requires-5 : tie.Need-set-of-requires-5
-set-of-requires-5 c κs = search needs
-
-set-of-requires-6 : tie.Need-set-of-requires-6
-set-of-requires-6 c κs = search needs
-
 some-in-requires : tie.Need-some-in-requires
 some-in-requires c κs = (c .before .before .pre .0, (rw (c .before .match .keys6) at (c .before .before .pre .1)) .0)
 
-set-of-requires-7 : tie.Need-set-of-requires-7
-set-of-requires-7 c κs = search needs
-
 all-in-requires : tie.Need-all-in-requires
 all-in-requires c κs = (c .before .before .pre .0, (rw (c .before .match .keys7) at (c .before .before .pre .1)) .0)
-
-full-requires : tie.Need-full-requires
-full-requires c κs = search needs
 
 returns : tie.Need-returns
 returns c = λ d l. rw (c .match .keys1) (bit-zero d)
@@ -87,17 +60,17 @@ extent-spec =
     tie.close
     (tie.spec
     atom-of-requires
-    set-of-requires
-    outside-requires
-    set-of-requires-2
-    set-of-requires-3
-    set-of-requires-4
-    set-of-requires-5
-    set-of-requires-6
+    (λ c κs. search needs)
+    (λ c κs. search needs)
+    (λ c κs. search needs)
+    (λ c κs. search needs)
+    (λ c κs. search needs)
+    (λ c κs. search needs)
+    (λ c κs. search needs)
     some-in-requires
-    set-of-requires-7
+    (λ c κs. search needs)
     all-in-requires
-    full-requires
+    (λ c κs. search needs)
     returns
     returns-2
     returns-3

@@ -25,24 +25,12 @@ abbrev μ-loop : tie.MeasureT-loop
 loop-holds : tie.Need-loop-holds Inv-loop μ-loop
 loop-holds c = let a = c .args in (omega arith, first-start (wrongIn (a .size) (now (a .ext)) (now (a .places)) (now (a .edges))) (map sidedOf (records (a .t1))))
 
-mul-c : tie.Need-mul-c Inv-loop μ-loop
-mul-c c = search needs
-
-element-copy-out-c : tie.Need-element-copy-out-c Inv-loop μ-loop
-element-copy-out-c c = search needs
-
 wrong-requires : tie.Need-wrong-requires Inv-loop μ-loop
 wrong-requires c κs =
     let l = c .before .before in
     let s = l .before in
     let a = s .args in
     (s .pre .0, fit-at (a .t1) (a .size) (now (a .places)) (goal-length (a .t1) _ (s .good .0)) (s .pre .1 .0) (s .pre .1 .1) (l .loop .i) (omega arith))
-
-add-i : tie.Need-add-i Inv-loop μ-loop
-add-i c = search needs
-
-loop-less : tie.Need-loop-less Inv-loop μ-loop
-loop-less c = search needs
 
 loop-again : tie.Need-loop-again Inv-loop μ-loop
 loop-again c =
@@ -80,11 +68,11 @@ first-wrong-spec =
     Inv-loop
     μ-loop
     loop-holds
-    mul-c
-    element-copy-out-c
+    (λ c. search needs)
+    (λ c. search needs)
     wrong-requires
-    add-i
-    loop-less
+    (λ c. search needs)
+    (λ c. search needs)
     loop-again
     returns
     returns-2)

@@ -14,9 +14,6 @@ use borrow.Author.Needs.{needs}
 use Rattle.models.proofs.holds.Statement.{statement}
 use Rattle.models.proofs.holds.Tie as tie
 
-set-of-requires : tie.Need-set-of-requires
-set-of-requires c κs = search needs
-
 seat-requires : tie.Need-seat-requires
 seat-requires c κs =
     let s = c .before .before in
@@ -34,15 +31,6 @@ returns c =
     let s = c .before .before .before .before in
     let a = s .args in
     c .in-set .ensures ∙ ap₂ bit (c .before .before .set-of .ensures) (c .before .seat .ensures) ∙ sym (ap (truthIn (a .size) (now (a .ext)) (now (a .places)) (now (a .edges))) (claim-is (a .c) (c .before .before .before .if1 .taken)))
-
-set-of-requires-2 : tie.Need-set-of-requires-2
-set-of-requires-2 c κs = search needs
-
-set-of-requires-3 : tie.Need-set-of-requires-3
-set-of-requires-3 c κs = search needs
-
-within-requires : tie.Need-within-requires
-within-requires c κs = search needs
 
 returns-2 : tie.Need-returns-2
 returns-2 c =
@@ -86,13 +74,13 @@ pub holds-spec : {M : Type 1} → statement M
 holds-spec =
     tie.close
     (tie.spec
-    set-of-requires
+    (λ c κs. search needs)
     seat-requires
     in-set-requires
     returns
-    set-of-requires-2
-    set-of-requires-3
-    within-requires
+    (λ c κs. search needs)
+    (λ c κs. search needs)
+    (λ c κs. search needs)
     returns-2
     seat-requires-2
     seat-requires-3

@@ -5,11 +5,8 @@ use Rattle.models.proofs.BitLaws.{bit-and}
 use Rattle.models.proofs.inside.Statement.{statement}
 use Rattle.models.proofs.inside.Tie as tie
 
-full-requires : tie.Need-full-requires
-full-requires c κs = search needs
-
 returns : tie.Need-returns
 returns c = λ e. bit-and (c .full .result) (c .before .args .x) e ∙ rw (c .full .ensures e)
 
 pub inside-spec : {M : Type 1} → statement M
-inside-spec = tie.close (tie.spec full-requires returns)
+inside-spec = tie.close (tie.spec (λ c κs. search needs) returns)

@@ -11,27 +11,6 @@ use borrow.Author.Needs.{needs}
 use Rattle.models.proofs.linked.Statement.{statement}
 use Rattle.models.proofs.linked.Tie as tie
 
-cast-in-set : tie.Need-cast-in-set
-cast-in-set c = search needs
-
-mul-in-set : tie.Need-mul-in-set
-mul-in-set c = search needs
-
-cast-in-set-2 : tie.Need-cast-in-set-2
-cast-in-set-2 c = search needs
-
-add-in-set : tie.Need-add-in-set
-add-in-set c = search needs
-
-mul-in-set-2 : tie.Need-mul-in-set-2
-mul-in-set-2 c = search needs
-
-element-copy-out-in-set : tie.Need-element-copy-out-in-set
-element-copy-out-in-set c = search needs
-
-in-set-requires : tie.Need-in-set-requires
-in-set-requires c κs = search needs
-
 returns : tie.Need-returns
 unfolding edgeIn
 returns c =
@@ -43,11 +22,11 @@ pub linked-spec : {M : Type 1} → statement M
 linked-spec =
     tie.close
     (tie.spec
-    cast-in-set
-    mul-in-set
-    cast-in-set-2
-    add-in-set
-    mul-in-set-2
-    element-copy-out-in-set
-    in-set-requires
+    (λ c. search needs)
+    (λ c. search needs)
+    (λ c. search needs)
+    (λ c. search needs)
+    (λ c. search needs)
+    (λ c. search needs)
+    (λ c κs. search needs)
     returns)

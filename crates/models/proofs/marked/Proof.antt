@@ -9,12 +9,6 @@ use Rattle.models.proofs.BitLaws.{bit-or, bit-one}
 use Rattle.models.proofs.marked.Statement.{statement}
 use Rattle.models.proofs.marked.Tie as tie
 
-cast-result : tie.Need-cast-result
-cast-result c = search needs
-
-shl-result : tie.Need-shl-result
-shl-result c = search needs
-
 returns : tie.Need-returns
 returns c = λ e.
     let a = c .before .before .args in
@@ -24,4 +18,4 @@ returns-2 : tie.Need-returns-2
 returns-2 c = λ e. rw (c .if1 .left) (sym (or-none (bit (c .before .args .x) e)))
 
 pub marked-spec : {M : Type 1} → statement M
-marked-spec = tie.close (tie.spec cast-result shl-result returns returns-2)
+marked-spec = tie.close (tie.spec (λ c. search needs) (λ c. search needs) returns returns-2)

@@ -5,11 +5,8 @@ use Rattle.models.proofs.BitLaws.{bit-minus}
 use Rattle.models.proofs.outside.Statement.{statement}
 use Rattle.models.proofs.outside.Tie as tie
 
-full-requires : tie.Need-full-requires
-full-requires c κs = search needs
-
 returns : tie.Need-returns
 returns c = λ e. bit-minus (c .full .result) (c .before .args .x) e ∙ rw (c .full .ensures e)
 
 pub outside-spec : {M : Type 1} → statement M
-outside-spec = tie.close (tie.spec full-requires returns)
+outside-spec = tie.close (tie.spec (λ c κs. search needs) returns)

@@ -20,40 +20,10 @@ Inv-loop size edges s row out₀ d₀ out d = (d ≤ size) × ((e : ℕ) → bit
 abbrev μ-loop : tie.MeasureT-loop
 μ-loop size edges s row out₀ d₀ out d = size - d
 
-cast-row : tie.Need-cast-row Inv-loop μ-loop
-cast-row c = search needs
-
-mul-row : tie.Need-mul-row Inv-loop μ-loop
-mul-row c = omega arith
-
 loop-holds : tie.Need-loop-holds Inv-loop μ-loop
 loop-holds c =
     let a = c .before .args in
     (omega arith, λ e. bit-zero e ∙ sym (ap (λ (t : Bool). t && common (getD (now (a .edges)) (a .r .0 * 32 + e) 0) (a .s)) (le-ltb e 0 (omega arith))))
-
-cast-to : tie.Need-cast-to Inv-loop μ-loop
-cast-to c = omega arith
-
-add-to : tie.Need-add-to Inv-loop μ-loop
-add-to c = omega arith
-
-mul-to : tie.Need-mul-to Inv-loop μ-loop
-mul-to c = omega arith
-
-element-copy-out-to : tie.Need-element-copy-out-to Inv-loop μ-loop
-element-copy-out-to c = omega arith
-
-meets-requires : tie.Need-meets-requires Inv-loop μ-loop
-meets-requires c κs = tt
-
-marked-requires : tie.Need-marked-requires Inv-loop μ-loop
-marked-requires c κs = omega arith
-
-add-d : tie.Need-add-d Inv-loop μ-loop
-add-d c = omega arith
-
-loop-less : tie.Need-loop-less Inv-loop μ-loop
-loop-less c = omega arith
 
 loop-again : tie.Need-loop-again Inv-loop μ-loop
 loop-again c =
@@ -72,16 +42,16 @@ reaching-spec =
     (tie.spec
     Inv-loop
     μ-loop
-    cast-row
-    mul-row
+    (λ c. search needs)
+    (λ c. omega arith)
     loop-holds
-    cast-to
-    add-to
-    mul-to
-    element-copy-out-to
-    meets-requires
-    marked-requires
-    add-d
-    loop-less
+    (λ c. omega arith)
+    (λ c. omega arith)
+    (λ c. omega arith)
+    (λ c. omega arith)
+    (λ c κs. tt)
+    (λ c κs. omega arith)
+    (λ c. omega arith)
+    (λ c. omega arith)
     loop-again
     returns)

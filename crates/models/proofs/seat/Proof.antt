@@ -5,12 +5,6 @@ use borrow.Author.Needs.{needs}
 use Rattle.models.proofs.seat.Statement.{statement}
 use Rattle.models.proofs.seat.Tie as tie
 
-cast-d : tie.Need-cast-d
-cast-d c = search needs
-
-element-copy-out-d : tie.Need-element-copy-out-d
-element-copy-out-d c = search needs
-
 sub-d : tie.Need-sub-d
 unfolding seatsOf
 sub-d c = placed-some _ (c .before .before .pre .1)
@@ -20,4 +14,4 @@ unfolding seatsOf
 returns c = placed-at _
 
 pub seat-spec : {M : Type 1} → statement M
-seat-spec = tie.close (tie.spec cast-d element-copy-out-d sub-d returns)
+seat-spec = tie.close (tie.spec (λ c. search needs) (λ c. search needs) sub-d returns)

@@ -6,12 +6,6 @@ use borrow.Author.Needs.{needs}
 use Rattle.models.proofs.set_atom.Statement.{statement}
 use Rattle.models.proofs.set_atom.Tie as tie
 
-cast-add-to : tie.Need-cast-add-to
-cast-add-to c = search needs
-
-add-to-requires : tie.Need-add-to-requires
-add-to-requires c κs = search needs
-
 returns : tie.Need-returns
 unfolding atomIn
 returns c =
@@ -20,4 +14,4 @@ returns c =
     record { answer = e .answer; world = atom-world (now (a .atoms)) (c .add-to .last .0) (a .a .0) (a .d .0) (e .sets) }
 
 pub set-atom-spec : {M : Type 1} → statement M
-set-atom-spec = tie.close (tie.spec cast-add-to add-to-requires returns)
+set-atom-spec = tie.close (tie.spec (λ c. search needs) (λ c κs. search needs) returns)

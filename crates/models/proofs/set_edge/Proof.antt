@@ -13,21 +13,6 @@ use borrow.Author.Needs.{needs}
 use Rattle.models.proofs.set_edge.Statement.{statement}
 use Rattle.models.proofs.set_edge.Tie as tie
 
-cast-add-to : tie.Need-cast-add-to
-cast-add-to c = search needs
-
-mul-add-to : tie.Need-mul-add-to
-mul-add-to c = search needs
-
-cast-add-to-2 : tie.Need-cast-add-to-2
-cast-add-to-2 c = search needs
-
-add-add-to : tie.Need-add-add-to
-add-add-to c = search needs
-
-add-to-requires : tie.Need-add-to-requires
-add-to-requires c κs = search needs
-
 returns : tie.Need-returns
 unfolding edgeIn
 returns c =
@@ -41,4 +26,4 @@ returns c =
 
 pub set-edge-spec : {M : Type 1} → statement M
 set-edge-spec =
-    tie.close (tie.spec cast-add-to mul-add-to cast-add-to-2 add-add-to add-to-requires returns)
+    tie.close (tie.spec (λ c. search needs) (λ c. search needs) (λ c. search needs) (λ c. search needs) (λ c κs. search needs) returns)

@@ -6,20 +6,8 @@ use borrow.Author.Needs.{needs}
 use Rattle.models.proofs.set_place.Statement.{statement}
 use Rattle.models.proofs.set_place.Tie as tie
 
-cast-i : tie.Need-cast-i
-cast-i c = search needs
-
-shared-slice-read-if1 : tie.Need-shared-slice-read-if1
-shared-slice-read-if1 c = search needs
-
 returns : tie.Need-returns
 returns c = let a = c .before .before .before .before .before .args in place-taken (now (a .places)) (a .a .0) (a .d .0) (c .if1 .taken)
-
-add-places : tie.Need-add-places
-add-places c = search needs
-
-element-write-places : tie.Need-element-write-places
-element-write-places c = search needs
 
 returns-2 : tie.Need-returns-2
 returns-2 c =
@@ -30,4 +18,4 @@ returns-2 c =
 pub set-place-spec : {M : Type 1} → statement M
 set-place-spec =
     tie.close
-    (tie.spec cast-i shared-slice-read-if1 returns add-places element-write-places returns-2)
+    (tie.spec (λ c. search needs) (λ c. search needs) returns (λ c. search needs) (λ c. search needs) returns-2)

@@ -7,16 +7,10 @@ use Rattle.models.proofs.ExtentLaws.{some-bits}
 use Rattle.models.proofs.some_in.Statement.{statement}
 use Rattle.models.proofs.some_in.Tie as tie
 
-inside-requires : tie.Need-inside-requires
-inside-requires c κs = search needs
-
-reaching-requires : tie.Need-reaching-requires
-reaching-requires c κs = search needs
-
 returns : tie.Need-returns
 returns c =
     let a = c .before .before .args in
     some-bits (a .size) (now (a .edges)) (a .r .0) (c .before .inside .result) (c .reaching .result) (bit (a .s)) (omega arith) (c .before .inside .ensures) (c .reaching .ensures)
 
 pub some-in-spec : {M : Type 1} → statement M
-some-in-spec = tie.close (tie.spec inside-requires reaching-requires returns)
+some-in-spec = tie.close (tie.spec (λ c κs. search needs) (λ c κs. search needs) returns)

@@ -8,12 +8,6 @@ use borrow.Author.Needs.{needs}
 use Rattle.models.proofs.within.Statement.{statement}
 use Rattle.models.proofs.within.Tie as tie
 
-outside-requires : tie.Need-outside-requires
-outside-requires c κs = search needs
-
-meets-requires : tie.Need-meets-requires
-meets-requires c κs = search needs
-
 returns : tie.Need-returns
 returns c =
     let a = c .before .before .args in
@@ -21,4 +15,4 @@ returns c =
     ∙ not-some (a .size) (bit (a .x)) (bit (a .y))
 
 pub within-spec : {M : Type 1} → statement M
-within-spec = tie.close (tie.spec outside-requires meets-requires returns)
+within-spec = tie.close (tie.spec (λ c κs. search needs) (λ c κs. search needs) returns)

@@ -6,9 +6,6 @@ use borrow.Author.Needs.{needs}
 use Rattle.models.proofs.wrong.Statement.{statement}
 use Rattle.models.proofs.wrong.Tie as tie
 
-holds-requires : tie.Need-holds-requires
-holds-requires c κs = search needs
-
 returns : tie.Need-returns
 returns c = rw (eq-eqb (c .before .before .args .c .side) 1 (c .if1 .taken)) (ap not (c .before .holds .ensures))
 
@@ -16,4 +13,4 @@ returns-2 : tie.Need-returns-2
 returns-2 c = rw (ne-eqb (c .before .before .args .c .side) 1 (c .if1 .left)) (c .before .holds .ensures)
 
 pub wrong-spec : {M : Type 1} → statement M
-wrong-spec = tie.close (tie.spec holds-requires returns returns-2)
+wrong-spec = tie.close (tie.spec (λ c κs. search needs) returns returns-2)
