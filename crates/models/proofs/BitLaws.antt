@@ -1,4 +1,5 @@
--- The bits of what the machine's operations give.
+-- The bits of what the machine's operations give: `&`, `|` and `^` work digit by digit, a shift moves the digits, and a number that is not 0
+-- has a digit that is not 0.
 -- Assumes nothing.
 use Prim.Native.Nat.{ℕ, zero, suc, _+_, _-_, _*_, _/_, _%_, _^_, _≤_, _<_}
 use native.Mathlib.Omega.{arith}
@@ -51,11 +52,11 @@ bit-and = bit-op bitAnd _&&_ and-shr and-mod refl refl refl refl
 pub bit-or : (a b d : ℕ) → bit (bitOr a b) d ≡ (bit a d || bit b d)
 bit-or = bit-op bitOr _||_ or-shr or-mod refl refl refl refl
 
-pub bit-xor : (a b d : ℕ) → bit (bitXor a b) d ≡ differs (bit a d) (bit b d)
+bit-xor : (a b d : ℕ) → bit (bitXor a b) d ≡ differs (bit a d) (bit b d)
 bit-xor = bit-op bitXor differs xor-shr xor-mod refl refl refl refl
 
 -- what is in a and not in b
-pub minus : (a b : Bool) → (a && differs a b) ≡ (a && not b)
+minus : (a b : Bool) → (a && differs a b) ≡ (a && not b)
 minus true b = refl
 minus false b = refl
 
@@ -67,7 +68,7 @@ unfolding bit
 bit-zero d = rw (zero-div (2 ^ d))
 
 -- a number below 2 ^ n has no bit at n or above
-pub bit-high : (x n d : ℕ) → x < 2 ^ n → n ≤ d → bit x d ≡ false
+bit-high : (x n d : ℕ) → x < 2 ^ n → n ≤ d → bit x d ≡ false
 unfolding bit
 bit-high x n d h l = rw (div-eq-of-lt (lt-of-lt-of-le h (pow-mono l)))
 
@@ -79,7 +80,7 @@ ones-low : (k d : ℕ) → bit (2 ^ (suc k + d) - 1) d ≡ true
 unfolding bit
 ones-low k d = rw (ones-split (suc k) d, high (2 ^ suc k - 1) d (ones-lt d), odd k)
 
-pub bit-ones : (n d : ℕ) → bit (2 ^ n - 1) d ≡ ltb d n
+bit-ones : (n d : ℕ) → bit (2 ^ n - 1) d ≡ ltb d n
 bit-ones n d = go (ltb d n) refl
   where
     low : (k : ℕ) → suc k + d ≡ n → bit (2 ^ n - 1) d ≡ true
@@ -141,7 +142,7 @@ top-clear n x h b = rw one-mul at (div-lt-iff-lt-mul {y = 1} (pow-pos n) .0 smal
     small : x / 2 ^ n < 1
     small = omega (arith, eqb-false (x / 2 ^ n % 2) 1 b, two)
 
-pub bit-some : (n x : ℕ) → x < 2 ^ n → not (eqb x 0) ≡ someBelow n (bit x)
+bit-some : (n x : ℕ) → x < 2 ^ n → not (eqb x 0) ≡ someBelow n (bit x)
 bit-some zero x h = ap not (eq-eqb x 0 (omega arith))
 bit-some (suc n) x h = go (bit x n) refl (λ l. bit-some n x l)
   where

@@ -20,7 +20,7 @@ use Rattle.models.specs.Extent.{extent}
 use Rattle.models.specs.Shown.{edgeIn}
 use Rattle.models.proofs.Bools.{and-off}
 
-pub some-same : (n : ℕ) (f g : ℕ → Bool) → ((e : ℕ) → e < n → f e ≡ g e) → someBelow n f ≡ someBelow n g
+some-same : (n : ℕ) (f g : ℕ → Bool) → ((e : ℕ) → e < n → f e ≡ g e) → someBelow n f ≡ someBelow n g
 some-same zero f g h = refl
 some-same (suc n) f g h = ap₂ (λ (a b : Bool). a || b) (h n (omega arith)) (some-same n f g (λ e (l : e < n). h e (omega arith)))
 
