@@ -1,4 +1,4 @@
--- How the code's records and arrays show claims, goals and the table.
+-- How the code's records, arrays and answers show claims, goals, the table and verdicts.
 -- Assumes nothing.
 use Prim.Native.Nat.{ℕ, zero, suc}
 use mathlib.Core.Bool.{cond}
@@ -9,7 +9,10 @@ use lib.ListN.{take, getD}
 use Rattle.alc.specs.Table.{Kind, Table, entryOf}
 use Rattle.alc.specs.Claims.{Claim, is, sub, link, Sided, left, right}
 use Rattle.alc.specs.declared.Claim.{Claim as Record}
+use Rattle.alc.specs.Verdict.{Verdict, proved, refuted, refused}
 use Rattle.alc.specs.declared.Goal.{Goal as Records}
+use Rattle.alc.specs.declared.Answer.{Answer}
+use Rattle.alc.specs.declared.Answer.the-variants.{Proved, Refuted, Refused}
 
 -- the record of a claim on side 1 (left) or 2 (right): kinds count from 1, and what a claim does not have is 0
 abbrev pub recordBy : ℕ → Claim → Record
@@ -51,3 +54,9 @@ kindAt k = getD (Kind.top ∷ Kind.bot ∷ Kind.atom ∷ Kind.not ∷ Kind.and �
 unfoldable pub tableOf : List ℕ → List ℕ → List ℕ → ℕ → Table
 tableOf ks xs ys zero = []
 tableOf ks xs ys (suc n) = tableOf ks xs ys n ++ (entryOf (kindAt (getD ks n 0)) (getD xs n 0) (getD ys n 0) ∷ [])
+
+-- the verdict that an answer is
+abbrev pub answered : Answer → Verdict
+answered (Proved n) = proved n
+answered (Refuted n) = refuted n
+answered (Refused k n) = refused k n
