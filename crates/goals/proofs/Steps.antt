@@ -106,7 +106,7 @@ news-record true a cs = and-none (not (any (hasName a) (map recordOf cs))) ∙ a
 news-record false a cs = none-new cs
 
 -- the premises
-map-append : (l m : List Sided) → map recordOf (l ++ m) ≡ map recordOf l ++ map recordOf m
+pub map-append : (l m : List Sided) → map recordOf (l ++ m) ≡ map recordOf l ++ map recordOf m
 map-append [] m = refl
 map-append (s ∷ l) m = ap (λ r. recordOf s ∷ r) (map-append l m)
 

@@ -15,9 +15,10 @@ use Rattle.alc.specs.Table.{Table, Entry, entryOf, stands, entryFields}
 use Rattle.alc.specs.Claims.{Claim, is, sub, link, Sided, left, right, Goal, claimFields}
 use Rattle.alc.specs.Claims as Claims
 use Rattle.alc.specs.Dossier.{saying}
-use Rattle.alc.specs.Shown.{kindAt, tableOf}
+use Rattle.alc.specs.Shown.{kindAt, tableOf, Shows}
 use Rattle.alc.specs.Verdict.{Verdict, refused, State, table, claims, steps, start, begin, judge}
 use Rattle.heading.specs.declared.Listed.{Listed}
+use Rattle.heading.specs.declared.Heading.{Heading}
 use Rattle.heading.specs.Fields.{saidFields}
 
 -- the line of the table that a line of the text is
@@ -69,3 +70,15 @@ inSteps T cs n gs = record { part = steps; table = T; claims = cs; steps = n; go
 
 abbrev pub atStart : Table → List Sided → State
 atStart T cs = record { part = start; table = T; claims = cs; steps = 0; goals = []; size = 0; facts = [] }
+
+-- what the reading of the claims comes to, from a position on behind a table T
+pub record ClaimsRead (text : List ℕ) (T : Table) (begun : ℕ) (r : Heading) : Type 0 where
+  pub cs : List Sided
+  pub shown : Shows (r .claims) cs
+  pub few : r .claims .count ≤ 64
+  pub ranges : All (λ s. every (inRange (length T) 0) (claimFields (Claims.claim s)) ≡ true) cs
+  pub within : r .at ≤ length text
+  pub counted : r .lines ≤ r .at
+  pub refusal : (r .number ≡ 0 → ⊥) → judge (length T) (inClaims T []) (linesOf (drop begun text)) ≡ refused (r .number) (suc (r .lines))
+  pub proof : r .number ≡ 0 → r .turn ≡ 1 → judge (length T) (inClaims T []) (linesOf (drop begun text)) ≡ judge (r .lines) (inSteps T cs 0 (cs ∷ [])) (linesOf (drop (r .at) text))
+  pub model : r .number ≡ 0 → (r .turn ≡ 1 → ⊥) → judge (length T) (inClaims T []) (linesOf (drop begun text)) ≡ judge (r .lines) (atStart T cs) (linesOf (drop (r .at) text))

@@ -1,5 +1,10 @@
 // The heading of a dossier: its table and its claims, read line by line into columns and records. Words and numbers come from `lines`,
 // and no byte is seen here. `ranged` is the range test of every line, also of those behind the heading.
+use alc::Claim;
+use alc::Concept;
+use alc::Goal;
+use alc::Name;
+use alc::Role;
 use goals::Entry;
 use lines::Line;
 use lines::Next;
@@ -7,16 +12,16 @@ ghost use mathlib.Core.Path.{_≡_};
 ghost use Prim.Native.Nat.{ℕ, _+_, _<_, _≤_, _%_};
 ghost use lib.ListN.{length, getD, set};
 ghost use Rattle.lines.specs.Text.{wordCount};
-ghost use mathlib.Core.Bool.{_&&_};
+ghost use mathlib.Core.Bool.{_&&_, cond};
 ghost use lib.Dec.{eqb, leb};
 ghost use Rattle.alc.specs.Lists.{every};
 ghost use Rattle.alc.specs.Ranges.{inRange};
 ghost use Rattle.alc.specs.Dossier.{saying};
 ghost use Rattle.alc.specs.Rows.{refusal};
-ghost use Rattle.alc.specs.Table.{entryOf, stands as standsIn};
-ghost use Rattle.alc.specs.Shown.{kindAt, tableOf};
+ghost use Rattle.alc.specs.Table.{Table, entryOf, stands as standsIn};
+ghost use Rattle.alc.specs.Shown.{kindAt, tableOf, recordOf};
 ghost use Rattle.heading.specs.Fields.{saidFields, fieldBy};
-ghost use Rattle.heading.specs.Parts.{entryRows, TableRead};
+ghost use Rattle.heading.specs.Parts.{entryRows, TableRead, sidedIn, claimRows, ClaimsRead};
 
 // What the fields of each word are numbers of: a role (r), an atom (A), a name (n), an element (d), a size (s), a concept (c), none (-).
 const FIRST: [u8; 36] = *b"--Acccrrncr--ncrnnnnnnnnnnncnnnnsnAr";
@@ -201,6 +206,114 @@ pub fn read_table(
                     number: 0,
                     at: at,
                     count: n,
+                };
+            }
+        }
+    }
+}
+
+// The side of a claim: 1 left, 2 right.
+fn side_of(l: Line) -> u8
+    ensures { λ r. ⌜ r ≡ cond (eqb (l .side) 1) 1 2 ⌝ }
+{
+    if l.side == 1 {
+        return 1;
+    }
+    2
+}
+
+// The claim that a line of the text is.
+fn made_claim(l: Line) -> Claim
+    requires { ⌜ (8 ≤ l .word) × (l .word < 11) ⌝ }
+    ensures { λ r. ⌜ r ≡ recordOf (sidedIn l) ⌝ }
+{
+    let side = side_of(l);
+    let x = (l.n0 % 256) as u8;
+    let y = (l.n1 % 256) as u8;
+    let z = (l.n2 % 256) as u8;
+    if l.word == 8 {
+        return alc::is(side, Name(x), Concept(y));
+    }
+    if l.word == 9 {
+        return alc::sub(side, Concept(x), Concept(y));
+    }
+    alc::link(side, Role(x), Name(y), Name(z))
+}
+
+// The number of the first row that a claim does not pass, behind so many others, or 0.
+fn claim_refusal(l: Line, entries: usize, claims: usize) -> u8
+    requires { ⌜ l .word < wordCount ⌝ }
+    ensures { λ r. ⌜ r ≡ refusal (claimRows entries claims l) ⌝ }
+{
+    if claims >= 64 {
+        return 5;
+    }
+    if !ranged(l, entries, 0) {
+        return 3;
+    }
+    0
+}
+
+// What reading the claims came to: the refusal's number or 0, whether `proof` (1) or `model` (2) came, the position of the next line, how
+// many lines were read, and the claims.
+pub struct Heading {
+    pub number: u8,
+    pub turn: u8,
+    pub at: usize,
+    pub lines: usize,
+    pub claims: Goal,
+}
+
+// Reads the claims, from a position on, behind a table of so many lines, up to `proof` or `model`.
+pub fn read_claims(text: &[u8], start: usize, entries: usize) -> Heading
+    requires { ⌜ (start ≤ length (now text)) × (entries ≤ start) × (entries ≤ 256) ⌝ }
+    ensures { λ r. ⌜ ((T : Table) → length T ≡ entries → ClaimsRead (now (text .entry)) T start r) ⌝ }
+{
+    let mut at = start;
+    let mut n = entries;
+    let mut claims = goals::empty();
+    loop {
+        match lines::read(text, at, 1) {
+            Next::Found(l, next) => {
+                if l.word >= 11 {
+                    return Heading {
+                        number: 0,
+                        turn: l.word - 10,
+                        at: next,
+                        lines: n + 1,
+                        claims: claims,
+                    };
+                }
+                let k = claim_refusal(l, entries, claims.count);
+                if k != 0 {
+                    return Heading {
+                        number: k,
+                        turn: 0,
+                        at: at,
+                        lines: n,
+                        claims: claims,
+                    };
+                }
+                claims = goals::with(claims, made_claim(l));
+                n += 1;
+                at = next;
+            }
+            Next::Bad => {
+                return Heading {
+                    number: 2,
+                    turn: 0,
+                    at: at,
+                    lines: n,
+                    claims: claims,
+                };
+            }
+            Next::End => {
+                return Heading {
+                    number: 12,
+                    turn: 0,
+                    at: at,
+                    lines: n,
+                    claims: claims,
                 };
             }
         }
