@@ -18,7 +18,8 @@ use Rattle.models.specs.Extent.{Extended}
 use Rattle.models.specs.Shown.{worldOf, interpShown, seatsOf, seatOf, isSeated, Below, Claimed, Seated}
 use Rattle.models.specs.Truth.{truthIn, wrongIn}
 use Rattle.models.proofs.ExtentLaws.{every-same}
-use Rattle.models.proofs.Trees.{All-map, below-more}
+use Rattle.alc.proofs.ListFacts.{All-map}
+use Rattle.models.proofs.Trees.{below-more}
 use Rattle.models.proofs.ClaimLaws.{placed-low}
 use Rattle.models.proofs.Goals.{every-All}
 

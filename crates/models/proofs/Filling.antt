@@ -21,7 +21,8 @@ use Rattle.models.specs.Extent.{extent, Extended}
 use Rattle.models.specs.Shown.{Below, Tabled}
 use Rattle.models.proofs.BitLaws.{bit-zero, ltb-more}
 use Rattle.models.proofs.ExtentLaws.{clip, extent-same}
-use Rattle.models.proofs.Trees.{All-map, below-more, member-law}
+use Rattle.alc.proofs.ListFacts.{All-map}
+use Rattle.models.proofs.Trees.{below-more, member-law}
 
 pub zeros : (n k : ℕ) → _≡_ {A = ℕ} (getD (replicate n 0) k 0) 0
 zeros zero k = refl

@@ -17,7 +17,7 @@ use Rattle.alc.specs.Table.{Kind, Table, Entry, entry, entryOf, entryFields}
 use Rattle.models.specs.Shown.{Below, Ranged}
 use Rattle.models.proofs.Bools.{and-true}
 use Rattle.models.proofs.Goals.{every-All}
-use Rattle.models.proofs.Trees.{All-map}
+use Rattle.alc.proofs.ListFacts.{All-map}
 
 below : (n k : ℕ) (f : Field) → inRange n k f ≡ true → Below n k f
 below n k (role r) h = ltb-true r 16 h

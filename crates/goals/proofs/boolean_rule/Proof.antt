@@ -9,48 +9,6 @@ use Rattle.goals.proofs.Plans.{by-rule, as-adding, as-parting, first-is
 use Rattle.goals.proofs.boolean_rule.Statement.{statement}
 use Rattle.goals.proofs.boolean_rule.Tie as tie
 
-is-requires : tie.Need-is-requires
-is-requires c κs = search needs
-
-is-requires-2 : tie.Need-is-requires-2
-is-requires-2 c κs = search needs
-
-is-requires-3 : tie.Need-is-requires-3
-is-requires-3 c κs = search needs
-
-is-requires-4 : tie.Need-is-requires-4
-is-requires-4 c κs = search needs
-
-is-requires-5 : tie.Need-is-requires-5
-is-requires-5 c κs = search needs
-
-is-requires-6 : tie.Need-is-requires-6
-is-requires-6 c κs = search needs
-
-adds-requires : tie.Need-adds-requires
-adds-requires c κs = search needs
-
-adds-requires-2 : tie.Need-adds-requires-2
-adds-requires-2 c κs = search needs
-
-parts-requires : tie.Need-parts-requires
-parts-requires c κs = search needs
-
-parts-requires-2 : tie.Need-parts-requires-2
-parts-requires-2 c κs = search needs
-
-parts-requires-3 : tie.Need-parts-requires-3
-parts-requires-3 c κs = search needs
-
-parts-requires-4 : tie.Need-parts-requires-4
-parts-requires-4 c κs = search needs
-
-parts-requires-5 : tie.Need-parts-requires-5
-parts-requires-5 c κs = search needs
-
-parts-requires-6 : tie.Need-parts-requires-6
-parts-requires-6 c κs = search needs
-
 returns : tie.Need-returns
 unfolding plan stepOf
 returns c T h =
@@ -111,20 +69,20 @@ pub boolean-rule-spec : {M : Type 1} → statement M
 boolean-rule-spec =
     tie.close
     (tie.spec
-    is-requires
-    is-requires-2
-    is-requires-3
-    is-requires-4
-    is-requires-5
-    is-requires-6
-    adds-requires
-    adds-requires-2
-    parts-requires
-    parts-requires-2
-    parts-requires-3
-    parts-requires-4
-    parts-requires-5
-    parts-requires-6
+    (λ c κs. search needs)
+    (λ c κs. search needs)
+    (λ c κs. search needs)
+    (λ c κs. search needs)
+    (λ c κs. search needs)
+    (λ c κs. search needs)
+    (λ c κs. search needs)
+    (λ c κs. search needs)
+    (λ c κs. search needs)
+    (λ c κs. search needs)
+    (λ c κs. search needs)
+    (λ c κs. search needs)
+    (λ c κs. search needs)
+    (λ c κs. search needs)
     returns
     returns-2
     returns-3

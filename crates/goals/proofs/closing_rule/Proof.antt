@@ -9,39 +9,6 @@ use Rattle.goals.proofs.Plans.{by-rule, as-closing}
 use Rattle.goals.proofs.closing_rule.Statement.{statement}
 use Rattle.goals.proofs.closing_rule.Tie as tie
 
-is-requires : tie.Need-is-requires
-is-requires c κs = search needs
-
-is-requires-2 : tie.Need-is-requires-2
-is-requires-2 c κs = search needs
-
-closes-requires : tie.Need-closes-requires
-closes-requires c κs = search needs
-
-sub-requires : tie.Need-sub-requires
-sub-requires c κs = search needs
-
-sub-requires-2 : tie.Need-sub-requires-2
-sub-requires-2 c κs = search needs
-
-closes-requires-2 : tie.Need-closes-requires-2
-closes-requires-2 c κs = search needs
-
-link-requires : tie.Need-link-requires
-link-requires c κs = search needs
-
-link-requires-2 : tie.Need-link-requires-2
-link-requires-2 c κs = search needs
-
-closes-requires-3 : tie.Need-closes-requires-3
-closes-requires-3 c κs = search needs
-
-closes-requires-4 : tie.Need-closes-requires-4
-closes-requires-4 c κs = search needs
-
-closes-requires-5 : tie.Need-closes-requires-5
-closes-requires-5 c κs = search needs
-
 returns : tie.Need-returns
 unfolding plan stepOf
 returns c T = by-rule T _ _ _ _ 0 (c .before .match .keys1) _ _ (as-closing _ _ _ (c .closes .ensures) (c .before .before .before .is .ensures) (c .before .before .is2 .ensures) (record { asked = refl; needed = refl; dropped = refl; news = refl; left = refl }))
@@ -66,17 +33,17 @@ pub closing-rule-spec : {M : Type 1} → statement M
 closing-rule-spec =
     tie.close
     (tie.spec
-    is-requires
-    is-requires-2
-    closes-requires
-    sub-requires
-    sub-requires-2
-    closes-requires-2
-    link-requires
-    link-requires-2
-    closes-requires-3
-    closes-requires-4
-    closes-requires-5
+    (λ c κs. search needs)
+    (λ c κs. search needs)
+    (λ c κs. search needs)
+    (λ c κs. search needs)
+    (λ c κs. search needs)
+    (λ c κs. search needs)
+    (λ c κs. search needs)
+    (λ c κs. search needs)
+    (λ c κs. search needs)
+    (λ c κs. search needs)
+    (λ c κs. search needs)
     returns
     returns-2
     returns-3

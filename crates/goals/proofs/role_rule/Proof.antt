@@ -9,54 +9,6 @@ use Rattle.goals.proofs.Plans.{by-rule, as-adding, as-opening, second-i
 use Rattle.goals.proofs.role_rule.Statement.{statement}
 use Rattle.goals.proofs.role_rule.Tie as tie
 
-is-requires : tie.Need-is-requires
-is-requires c κs = search needs
-
-is-requires-2 : tie.Need-is-requires-2
-is-requires-2 c κs = search needs
-
-link-requires : tie.Need-link-requires
-link-requires c κs = search needs
-
-is-requires-3 : tie.Need-is-requires-3
-is-requires-3 c κs = search needs
-
-is-requires-4 : tie.Need-is-requires-4
-is-requires-4 c κs = search needs
-
-sub-requires : tie.Need-sub-requires
-sub-requires c κs = search needs
-
-is-requires-5 : tie.Need-is-requires-5
-is-requires-5 c κs = search needs
-
-adds-requires : tie.Need-adds-requires
-adds-requires c κs = search needs
-
-sub-requires-2 : tie.Need-sub-requires-2
-sub-requires-2 c κs = search needs
-
-is-requires-6 : tie.Need-is-requires-6
-is-requires-6 c κs = search needs
-
-is-requires-7 : tie.Need-is-requires-7
-is-requires-7 c κs = search needs
-
-opens-requires : tie.Need-opens-requires
-opens-requires c κs = search needs
-
-opens-requires-2 : tie.Need-opens-requires-2
-opens-requires-2 c κs = search needs
-
-adds-requires-2 : tie.Need-adds-requires-2
-adds-requires-2 c κs = search needs
-
-adds-requires-3 : tie.Need-adds-requires-3
-adds-requires-3 c κs = search needs
-
-opens-requires-3 : tie.Need-opens-requires-3
-opens-requires-3 c κs = search needs
-
 returns : tie.Need-returns
 unfolding plan stepOf
 returns c T h =
@@ -102,22 +54,22 @@ pub role-rule-spec : {M : Type 1} → statement M
 role-rule-spec =
     tie.close
     (tie.spec
-    is-requires
-    is-requires-2
-    link-requires
-    is-requires-3
-    is-requires-4
-    sub-requires
-    is-requires-5
-    adds-requires
-    sub-requires-2
-    is-requires-6
-    is-requires-7
-    opens-requires
-    opens-requires-2
-    adds-requires-2
-    adds-requires-3
-    opens-requires-3
+    (λ c κs. search needs)
+    (λ c κs. search needs)
+    (λ c κs. search needs)
+    (λ c κs. search needs)
+    (λ c κs. search needs)
+    (λ c κs. search needs)
+    (λ c κs. search needs)
+    (λ c κs. search needs)
+    (λ c κs. search needs)
+    (λ c κs. search needs)
+    (λ c κs. search needs)
+    (λ c κs. search needs)
+    (λ c κs. search needs)
+    (λ c κs. search needs)
+    (λ c κs. search needs)
+    (λ c κs. search needs)
     returns
     returns-2
     returns-3
