@@ -150,38 +150,3 @@ module _ (T : Table) (entries : ℕ) (long : length T ≡ entries) (few : entrie
       → after (inSteps T cs n (g ∷ gs)) (saying l) ≡ inSteps T cs (suc n) (premises (plan T (stepIn l)) g ++ gs)
   unfolding after goalsAfter
   after-turn g gs w e = ap (after (inSteps T cs n (g ∷ gs))) (step-said l (fits (in-ranges g w e)) w13 w32)
-
-  -- where no row fails at most 17 goals are open
-  pub few-open : (g : Goal) (w : ℕ) → refusal (turnRows T entries l g w) ≡ 0 → length (premises (plan T (stepIn l)) g) + w ≤ 17
-  unfolding turnRows ruleRows
-  few-open g w e =
-      let q = plan T (stepIn l) in
-      let e3 = last (every (inRange entries 0) (saidFields (saying l))) _ 3 three e in
-      let e6 = last (q .asks) _ 6 six e3 in
-      let e7 = last (every (Rattle.alc.specs.Claims.has g) (q .needs)) _ 7 seven e6 in
-      let e8 = last (Rattle.alc.specs.Goals.areNew (q .news) g) _ 8 eight e7 in
-      let e10 = last (every (λ h. leb (length h) 64) (premises q g)) _ 10 ten e8 in
-      leb-true _ 17 (passes (leb (length (premises q g) + w) 17) e10)
-    where
-      last : (b : Bool) (x k : ℕ) → (k ≡ 0 → ⊥) → cond b x k ≡ 0 → x ≡ 0
-      last true x k h p = p
-      last false x k h p = absurd (h p)
-
-      passes : (b : Bool) → _≡_ {A = ℕ} (cond b 0 11) 0 → b ≡ true
-      passes true p = refl
-      passes false p = absurd (omega arith)
-
-      three : _≡_ {A = ℕ} 3 0 → ⊥
-      three h = omega arith
-
-      six : _≡_ {A = ℕ} 6 0 → ⊥
-      six h = omega arith
-
-      seven : _≡_ {A = ℕ} 7 0 → ⊥
-      seven h = omega arith
-
-      eight : _≡_ {A = ℕ} 8 0 → ⊥
-      eight h = omega arith
-
-      ten : _≡_ {A = ℕ} 10 0 → ⊥
-      ten h = omega arith

@@ -9,7 +9,7 @@ use lines::Line;
 use lines::Next;
 ghost use mathlib.Core.Path.{_≡_};
 ghost use mathlib.Core.List.{List, [], _∷_};
-ghost use Prim.Native.Nat.{ℕ, _-_, _<_, _≤_, _%_};
+ghost use Prim.Native.Nat.{ℕ, _+_, _-_, _<_, _≤_, _%_};
 ghost use lib.ListN.{length, getD, drop};
 ghost use Rattle.lines.specs.Text.{linesOf};
 ghost use Rattle.alc.specs.Claims.{Sided};
@@ -68,7 +68,7 @@ fn turn_at(
     waiting: usize,
 ) -> Turn
     requires { ⌜ Columns (now kinds) (now firsts) (now seconds) entries × (13 ≤ l .word) × (l .word < 32) × (g .count ≤ 64) × (waiting ≤ 16) ⌝ }
-    ensures { λ r. ⌜ (((cs : List Sided) → ShowsGoal g cs → Turned (tableOf (now (kinds .entry)) (now (firsts .entry)) (now (seconds .entry)) entries) entries l cs waiting r) × (r .under .count ≤ 64) × (r .over .count ≤ 64) × (r .opens ≤ 2)) ⌝ }
+    ensures { λ r. ⌜ (((cs : List Sided) → ShowsGoal g cs → Turned (tableOf (now (kinds .entry)) (now (firsts .entry)) (now (seconds .entry)) entries) entries l cs waiting r) × (r .under .count ≤ 64) × (r .over .count ≤ 64) × (r .opens ≤ 2) × (r .number ≡ 0 → r .opens + waiting ≤ 17)) ⌝ }
 {
     if !heading::ranged(l, entries, 0) {
         return Turn {

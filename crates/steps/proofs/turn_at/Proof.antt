@@ -25,7 +25,7 @@ T s = tableOf (now (s .args .kinds)) (now (s .args .firsts)) (now (s .args .seco
 returns : tie.Need-returns
 returns c =
     let s = c .before .before in
-    ((λ cs h. turned-3 _ _ _ cs _ _ (sym (c .before .ranged .ensures) ∙ not-true _ (c .if1 .taken)) refl), s .pre .3, s .pre .3, omega arith)
+    ((λ cs h. turned-3 _ _ _ cs _ _ (sym (c .before .ranged .ensures) ∙ not-true _ (c .if1 .taken)) refl), s .pre .3, s .pre .3, omega arith, λ (e : _≡_ {A = ℕ} 3 0). absurd (omega arith))
 
 made-step-requires : tie.Need-made-step-requires
 made-step-requires c κs = search needs
@@ -55,6 +55,7 @@ returns-2 c =
       t .1,
       t .2,
       t .3,
+      t .4,
     )
 
 pub turn-at-spec : {M : Type 1} → statement M
