@@ -9,7 +9,7 @@ use mathlib.Core.List.{List, [], _∷_, _++_, map}
 use mathlib.Core.Path.{_≡_, refl, sym, ap, ap₂, _∙_}
 use lib.Dec.{eqb, ltb, leb}
 use lib.ListN.{length, getD, length-map, length-append}
-use borrow.Author.Tests.{eqb-true, eq-eqb}
+use borrow.Author.Tests.{eqb-true, eq-eqb, leb-true}
 use Rattle.alc.specs.Lists.{any, every, isEmpty, elem, distinct}
 use Rattle.alc.specs.Rows.{Row, row, refusal}
 use Rattle.alc.specs.Ranges.{inRange}
@@ -169,31 +169,42 @@ module _ (kind : ℕ) (p : Planned) (q : Plan) (pl : Plans (kindAt kind) p q) (c
   pub held-premise : (i : ℕ) → i < length (premises q cs) → k ++ getD (added (p .leaves) (p .first) (p .second)) i [] ≡ map recordOf (getD (premises q cs) i [])
   held-premise i h = ap (λ a. a ++ getD (added (p .leaves) (p .first) (p .second)) i []) held ∙ premise-shown kind p q pl cs i h
 
--- where no row fails no premise is too long
+-- where no row fails no premise is too long, and at most 17 goals are open
 cond-zero : (b : Bool) (x n : ℕ) → (n ≡ 0 → ⊥) → cond b x n ≡ 0 → (b ≡ true) × (x ≡ 0)
 cond-zero true x n h e = (refl, e)
 cond-zero false x n h e = absurd (h e)
 
-pub all-small : (kind : ℕ) (p : Planned) (g k : List Record) (w : ℕ) → refusal (recordRows kind p g k w) ≡ 0
-    → every (λ l. leb (length (k ++ l)) 64) (added (p .leaves) (p .first) (p .second)) ≡ true
-unfolding recordRows
-all-small kind p g k w e =
-    let e6 = cond-zero (asks (p .kind) (kindAt kind)) _ 6 six e in
-    let e7 = cond-zero (every (λ c. any (sameRecord c) g) (upTo (p .needs) (p .need) (p .also))) _ 7 seven (e6 .1) in
-    let e8 = cond-zero (every (λ a. not (any (hasName a) g)) (newsBy (p .fresh) (p .name .0))) _ 8 eight (e7 .1) in
-    cond-zero _ (cond (leb (length (added (p .leaves) (p .first) (p .second)) + w) 17) 0 11) 10 ten (e8 .1) .0
-  where
-    six : _≡_ {A = ℕ} 6 0 → ⊥
-    six h = omega arith
+module _ (kind : ℕ) (p : Planned) (g k : List Record) (w : ℕ) (e : refusal (recordRows kind p g k w) ≡ 0) where
+  past-8 : _≡_ {A = ℕ} (cond (every (λ l. leb (length (k ++ l)) 64) (added (p .leaves) (p .first) (p .second))) (cond (leb (length (added (p .leaves) (p .first) (p .second)) + w) 17) 0 11) 10) 0
+  unfolding recordRows
+  past-8 =
+      let e6 = cond-zero (asks (p .kind) (kindAt kind)) _ 6 six e in
+      let e7 = cond-zero (every (λ c. any (sameRecord c) g) (upTo (p .needs) (p .need) (p .also))) _ 7 seven (e6 .1) in
+      cond-zero (every (λ a. not (any (hasName a) g)) (newsBy (p .fresh) (p .name .0))) _ 8 eight (e7 .1) .1
+    where
+      six : _≡_ {A = ℕ} 6 0 → ⊥
+      six h = omega arith
 
-    seven : _≡_ {A = ℕ} 7 0 → ⊥
-    seven h = omega arith
+      seven : _≡_ {A = ℕ} 7 0 → ⊥
+      seven h = omega arith
 
-    eight : _≡_ {A = ℕ} 8 0 → ⊥
-    eight h = omega arith
+      eight : _≡_ {A = ℕ} 8 0 → ⊥
+      eight h = omega arith
 
-    ten : _≡_ {A = ℕ} 10 0 → ⊥
-    ten h = omega arith
+  past-10 : (every (λ l. leb (length (k ++ l)) 64) (added (p .leaves) (p .first) (p .second)) ≡ true) × _≡_ {A = ℕ} (cond (leb (length (added (p .leaves) (p .first) (p .second)) + w) 17) 0 11) 0
+  past-10 = cond-zero _ (cond (leb (length (added (p .leaves) (p .first) (p .second)) + w) 17) 0 11) 10 ten past-8
+    where
+      ten : _≡_ {A = ℕ} 10 0 → ⊥
+      ten h = omega arith
+
+  pub all-small : every (λ l. leb (length (k ++ l)) 64) (added (p .leaves) (p .first) (p .second)) ≡ true
+  all-small = past-10 .0
+
+  pub all-open : length (added (p .leaves) (p .first) (p .second)) + w ≤ 17
+  all-open = leb-true _ 17 (cond-zero (leb (length (added (p .leaves) (p .first) (p .second)) + w) 17) 0 11 eleven (past-10 .1) .0)
+    where
+      eleven : _≡_ {A = ℕ} 11 0 → ⊥
+      eleven h = omega arith
 
 -- the premises of a turn, by their count
 pub leaves-of : (t : Turn) (ps : List Goal) → t .opens ≡ length ps → length ps ≤ 2

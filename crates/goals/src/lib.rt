@@ -526,7 +526,7 @@ pub fn second_premise(k: Goal, p: Plan) -> Goal
 // One step at the goal g, at the entry of its second field, with so many goals waiting.
 pub fn turn_of(g: Goal, s: Step, e: Entry, waiting: usize) -> Turn
     requires { ⌜ (g .count ≤ 64) × (s .rule < 19) × (e .kind < 8) × (waiting ≤ 16) ⌝ }
-    ensures { λ r. ⌜ (((T : Table) (cs : List Sided) → entry T (s .y) ≡ entryOf (kindAt (e .kind)) (e .x) (e .y) → ShowsGoal g cs → Turns (plan T (stepOf (s .rule) (s .x) (s .y) (s .z))) cs waiting r) × (r .under .count ≤ 64) × (r .over .count ≤ 64) × (r .opens ≤ 2)) ⌝ }
+    ensures { λ r. ⌜ (((T : Table) (cs : List Sided) → entry T (s .y) ≡ entryOf (kindAt (e .kind)) (e .x) (e .y) → ShowsGoal g cs → Turns (plan T (stepOf (s .rule) (s .x) (s .y) (s .z))) cs waiting r) × (r .under .count ≤ 64) × (r .over .count ≤ 64) × (r .opens ≤ 2) × (r .number ≡ 0 → r .opens + waiting ≤ 17)) ⌝ }
 {
     let p = plan_of(s, e);
     let k = kept(g, p);

@@ -1,5 +1,5 @@
 -- `goals::turn_of` meets its contract: the rows at the records are those at the claims, and so are the premises. Assumes nothing.
-use Prim.Native.Nat.{ℕ, _≤_, _<_}
+use Prim.Native.Nat.{ℕ, _+_, _≤_, _<_}
 use mathlib.Core.Bool.{true}
 use mathlib.Core.List.{List, [], _++_, map}
 use mathlib.Core.Path.{_≡_, refl, sym, ap, subst, _∙_}
@@ -16,7 +16,7 @@ use Rattle.alc.specs.Goals.{premises}
 use Rattle.alc.specs.Shown.{kindAt, Shows, records, recordOf}
 use Rattle.goals.specs.Records.{stepOf, added, ruleRows, Plans, Turns}
 use Rattle.goals.proofs.RecordLaws.{few-open, two-opens}
-use Rattle.goals.proofs.Steps.{held-rows, held-premise, open-shown, all-small, leaves-of}
+use Rattle.goals.proofs.Steps.{held-rows, held-premise, open-shown, all-small, all-open, leaves-of}
 use Rattle.goals.proofs.turn_of.Statement.{statement}
 use Rattle.goals.proofs.turn_of.Tie as tie
 
@@ -47,6 +47,7 @@ returns c =
       s .pre .0,
       s .pre .0,
       omega arith,
+      λ e. absurd (c .if1 .taken e),
     )
 
 -- no row failed
@@ -56,6 +57,11 @@ passed c = c .if1 .left
 small : (c : tie.Else1) → every (λ l. leb (length (records (c .before .before .kept .result) ++ l)) 64)
     (added (c .before .before .before .plan-of .result .leaves) (c .before .before .before .plan-of .result .first) (c .before .before .before .plan-of .result .second)) ≡ true
 small c = all-small _ _ _ _ _ (sym (c .before .refused .ensures) ∙ passed c)
+
+-- so there is room for its premises
+room : (c : tie.Else1) → length (added (c .before .before .before .plan-of .result .leaves) (c .before .before .before .plan-of .result .first) (c .before .before .before .plan-of .result .second))
+    + c .before .before .before .before .args .waiting ≤ 17
+room c = all-open _ _ _ _ _ (sym (c .before .refused .ensures) ∙ passed c)
 
 open-requires : tie.Need-open-requires
 open-requires c κs = search needs
@@ -113,6 +119,7 @@ returns-2 c =
       c .second-premise .ensures .1,
       f .first-premise .ensures .1,
       omega arith,
+      λ (e : _≡_ {A = ℕ} 0 0). omega (arith, room (f .before .before), f .before .«open» .ensures, c .before .if2 .taken),
     )
 
 returns-3 : tie.Need-returns-3
@@ -129,6 +136,7 @@ returns-3 c =
       f .first-premise .ensures .1,
       f .first-premise .ensures .1,
       omega (arith, f .before .«open» .ensures, few-open (p .leaves) (p .first) (p .second)),
+      λ (e : _≡_ {A = ℕ} 0 0). omega (arith, room (f .before .before), f .before .«open» .ensures),
     )
 
 pub turn-of-spec : {M : Type 1} → statement M

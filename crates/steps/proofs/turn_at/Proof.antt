@@ -1,0 +1,71 @@
+-- `steps::turn_at` meets its contract: the ranges are the first row, and the others are those of the rule, at the entry of the table.
+-- Assumes nothing.
+use Prim.Native.Nat.{ℕ, _-_, _%_}
+use mathlib.Core.Path.{_≡_, refl, sym, ap, subst, _∙_}
+use native.Mathlib.Omega.{arith}
+use denote.Ref.{now}
+use borrow.Author.Needs.{needs}
+use borrow.Author.Tests.{not-true, not-false}
+use Rattle.goals.specs.declared.Step.{Step}
+use Rattle.alc.specs.Table.{Table}
+use Rattle.alc.specs.Rules.{plan}
+use Rattle.goals.specs.Records.{stepOf, Turns}
+use Rattle.alc.specs.Shown.{tableOf}
+use Rattle.steps.proofs.StepLaws.{turned-3, turned}
+use Rattle.steps.proofs.turn_at.Statement.{statement}
+use Rattle.steps.proofs.turn_at.Tie as tie
+
+ranged-requires : tie.Need-ranged-requires
+ranged-requires c κs = omega (arith, c .pre .2)
+
+-- the table that the columns hold
+abbrev T : tie.Start → Table
+T s = tableOf (now (s .args .kinds)) (now (s .args .firsts)) (now (s .args .seconds)) (s .args .entries)
+
+returns : tie.Need-returns
+returns c =
+    let s = c .before .before in
+    ((λ cs h. turned-3 _ _ _ cs _ _ (sym (c .before .ranged .ensures) ∙ not-true _ (c .if1 .taken)) refl), s .pre .3, s .pre .3, omega arith, λ (e : _≡_ {A = ℕ} 3 0). absurd (omega arith))
+
+made-step-requires : tie.Need-made-step-requires
+made-step-requires c κs = search needs
+
+cast-i : tie.Need-cast-i
+cast-i c = search needs
+
+entry-at-requires : tie.Need-entry-at-requires
+entry-at-requires c κs = search needs
+
+turn-of-requires : tie.Need-turn-of-requires
+turn-of-requires c κs =
+    let m = c .before .before in
+    let s = m .before .before .before in
+    (s .pre .3, omega (arith, ap (λ (q : Step). q .rule) (m .made-step .ensures), s .pre .2), c .entry-at .ensures .1, s .pre .4)
+
+returns-2 : tie.Need-returns-2
+returns-2 c =
+    let m = c .before .before .before in
+    let r = m .before .before in
+    let s = r .before in
+    let t = c .turn-of .ensures in (
+      (λ cs h.
+          turned (T s) _ _ cs _ _ (sym (r .ranged .ensures) ∙ not-false _ (m .before .if1 .left))
+          (subst (λ (q : Step). Turns (plan (T s) (stepOf (q .rule) (q .x) (q .y) (q .z))) cs (s .args .waiting) (c .turn-of .result)) (m .made-step .ensures)
+          (t .0 (T s) cs (c .before .entry-at .ensures .0) h))),
+      t .1,
+      t .2,
+      t .3,
+      t .4,
+    )
+
+pub turn-at-spec : {M : Type 1} → statement M
+turn-at-spec =
+    tie.close
+    (tie.spec
+    ranged-requires
+    returns
+    made-step-requires
+    cast-i
+    entry-at-requires
+    turn-of-requires
+    returns-2)

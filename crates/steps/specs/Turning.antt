@@ -1,0 +1,30 @@
+-- What one line does at the current goal: its ranges, then the rows of its rule, and its premises where it passes all.
+-- Assumes nothing.
+use Prim.Native.Nat.{ℕ, _-_, _%_}
+use mathlib.Core.List.{List, _∷_}
+use mathlib.Core.Path.{_≡_}
+use Rattle.lines.specs.declared.Line.{Line}
+use Rattle.alc.specs.Lists.{every}
+use Rattle.alc.specs.Rows.{Row, row, refusal}
+use Rattle.alc.specs.Ranges.{inRange}
+use Rattle.alc.specs.Table.{Table}
+use Rattle.alc.specs.Claims.{Goal}
+use Rattle.alc.specs.Rules.{Step, plan}
+use Rattle.alc.specs.Goals.{premises}
+use Rattle.alc.specs.Dossier.{saying}
+use Rattle.goals.specs.declared.Turn.{Turn}
+use Rattle.goals.specs.Records.{stepOf, ruleRows, Leaves}
+use Rattle.heading.specs.Fields.{saidFields}
+
+-- the step that a line of the text is: the words of the steps begin at 13
+abbrev pub stepIn : Line → Step
+stepIn l = stepOf (l .word - 13) (l .n0 % 256) (l .n1 % 256) (l .n2 % 256)
+
+-- the rows of a line at the goal g, with so many entries in the table and w goals waiting
+unfoldable pub turnRows : Table → ℕ → Line → Goal → ℕ → List Row
+turnRows T entries l g w = row 3 (every (inRange entries 0) (saidFields (saying l))) ∷ ruleRows (plan T (stepIn l)) g w
+
+-- the number of the first row that the line does not pass, and its premises where it passes all
+pub record Turned (T : Table) (entries : ℕ) (l : Line) (g : Goal) (w : ℕ) (t : Turn) : Type 0 where
+  pub number : t .number ≡ refusal (turnRows T entries l g w)
+  pub leaves : t .number ≡ 0 → Leaves t (premises (plan T (stepIn l)) g)
