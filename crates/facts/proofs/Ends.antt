@@ -1,0 +1,146 @@
+-- The two ends of a model. Its first line gives a size from 1 to 32. At its end the arrays give what the facts give, since they tell them:
+-- an unplaced name, the first wrong claim, or none. Assumes nothing.
+use Prim.Native.Nat.{ℕ, suc, _+_, _≤_, _<_, _%_}
+use native.Mathlib.Omega.{arith}
+use native.Mathlib.Numerals.{add-one}
+use native.Mathlib.Decide.{decLt}
+use mathlib.Core.Bool.{Bool, true, false, not, cond}
+use mathlib.Core.List.{List, [], _∷_, map}
+use mathlib.Core.Path.{_≡_, refl, sym, ap, subst, _∙_}
+use lib.Dec.{ltb, leb}
+use lib.ListN.{length, getD, drop, length-map, List·getD-eq-default}
+use lib.Seq.{length-take-le}
+use borrow.Author.Tests.{lt-ltb, le-ltb}
+use mir.Val.{Val}
+use denote.Laws.{Is}
+use denote.Struct.Declared.{row}
+use Rattle.lines.specs.Text.{linesOf}
+use Rattle.lines.specs.declared.Line.{Line}
+use Rattle.lines.proofs.Told.{Told}
+use Rattle.lines.proofs.Loop.{Line-found, Line-bad}
+use Rattle.alc.specs.Lists.{All, every, firstAt}
+use Rattle.alc.specs.Ranges as Ranges
+use Rattle.alc.specs.Ranges.{inRange}
+use Rattle.alc.specs.Rows.{refusal}
+use Rattle.alc.specs.Table.{Kind, Table, Entry, entry, entryOf, entryFields}
+use Rattle.alc.specs.Meaning.{Interp}
+use Rattle.alc.specs.Claims.{Sided, claim, claimFields, good}
+use Rattle.alc.specs.Model.{Fact, interpOf, allPlaced}
+use Rattle.alc.specs.Dossier.{saying, size}
+use Rattle.alc.specs.Shown.{Shows, kindAt, recordOf, sidedOf, records, tableOf}
+use Rattle.alc.specs.Verdict.{Verdict, refuted, refused, rows, after, ending, modelled, judge}
+use Rattle.alc.specs.declared.Goal.{Goal as Records}
+use Rattle.alc.proofs.Goal.{the-type}
+use Rattle.alc.proofs.ShownLaws.{table-length, table-at, all-back}
+use Rattle.heading.specs.Fields.{saidFields}
+use Rattle.heading.specs.Parts.{Columns, atStart}
+use Rattle.heading.proofs.Small.{Small, small}
+use Rattle.heading.proofs.Judging.{judge-end, judge-bad, judge-next, judge-refused}
+use Rattle.heading.proofs.TableLaws.{byte}
+use Rattle.models.specs.Shown.{Below, Ranged, Sized, Tabled, Claimed, allSeated, interpShown}
+use Rattle.models.specs.Told.{Tells}
+use Rattle.models.proofs.InRange.{in-range}
+use Rattle.models.proofs.Trees.{All-map}
+use Rattle.models.proofs.Goals.{goal-length}
+use Rattle.models.proofs.Facts.{told-interp, told-placed}
+use Rattle.facts.specs.Asked.{Asked, inFacts}
+use Rattle.facts.proofs.FactLaws.{found-told, size-word, size-said}
+
+-- what `models` asks of the table and of the claims
+module _ (ks xs ys : List ℕ) (n : ℕ) (c : Columns ks xs ys n) where
+  abbrev T : Table
+  T = tableOf ks xs ys n
+
+  ranged : Ranged T
+  ranged i = go (decLt i n)
+    where
+      at : (e : Entry) → entry T i ≡ e → All (Below i 0) (entryFields e) → All (Below i 0) (entryFields (entry T i))
+      at e q = subst (λ (g : Entry). All (Below i 0) (entryFields g)) (sym q)
+
+      go : Dec (i < n) → All (Below i 0) (entryFields (entry T i))
+      go (yes h) =
+          let e = entryOf (kindAt (getD ks i 0)) (getD xs i 0) (getD ys i 0) in
+          at e (table-at ks xs ys n i (entryOf Kind.top 0 0) h) (in-range i 0 (entryFields e) (c .ranges i h))
+      go (no h) = at (entryOf Kind.top 0 0) (List·getD-eq-default T (entryOf Kind.top 0 0) (omega (arith, table-length ks xs ys n))) tt
+
+  pub tabled : Tabled ks xs ys n
+  tabled = record { few = c .few; ranged = ranged }
+
+pub claimed : (n : ℕ) (g : Records) → g .count ≤ 64 → All (λ s. every (inRange n 0) (claimFields (claim s)) ≡ true) (map sidedOf (records g)) → Claimed n g
+claimed n g few h = record { few = few; numbers = All-map (λ s. in-range n 0 (claimFields (claim s))) (map sidedOf (records g)) h }
+
+-- the claims that a goal shows
+module _ (g : Records) (cs : List Sided) (s : Shows g cs) where
+  pub shown : map sidedOf (records g) ≡ cs
+  shown = ap (map sidedOf) s ∙ all-back cs
+
+  pub shown-length : (vs : List Val) → Is (row the-type) g vs → g .count ≤ 64 → length cs ≡ g .count
+  shown-length vs p few =
+      ap length (sym shown) ∙ length-map (records g) sidedOf ∙ length-take-le (g .count) (g .claims) (omega (arith, goal-length g vs p))
+
+-- the end
+module _ (n : ℕ) (T : Table) (k : ℕ) (fs : List Fact) (ps ats es : List ℕ) (t : Tells k fs ps ats es) (g : Records) (cs : List Sided) (s : Shows g cs) where
+  placed : (b : Bool) → b ≡ allSeated ps (map sidedOf (records g)) → b ≡ allPlaced fs cs
+  placed b e = e ∙ told-placed k fs ps ats es t (map sidedOf (records g)) ∙ ap (allPlaced fs) (shown g cs s)
+
+  pub unplaced : (b : Bool) → b ≡ allSeated ps (map sidedOf (records g)) → b ≡ false → refused 12 (n + 1) ≡ modelled n (inFacts T cs k fs)
+  unplaced b e z =
+      let q : allPlaced fs cs ≡ false = sym (placed b e) ∙ z in
+      rw (q, add-one n)
+
+  module _ (b : Bool) (e : b ≡ allSeated ps (map sidedOf (records g))) (y : b ≡ true) (w : ℕ) (f : w ≡ firstAt (good T (interpShown k ps ats es)) (map sidedOf (records g))) where
+    all : allPlaced fs cs ≡ true
+    all = sym (placed b e) ∙ y
+
+    first : firstAt (good T (interpOf k fs)) cs ≡ w
+    first = sym (f ∙ ap (λ (I : Interp). firstAt (good T I) (map sidedOf (records g))) (told-interp k fs ps ats es t) ∙ ap (firstAt (good T (interpOf k fs))) (shown g cs s))
+
+    pub wrong-claim : (m : ℕ) → length T ≡ m → w < length cs → refused 13 (m + w + 1) ≡ modelled n (inFacts T cs k fs)
+    wrong-claim m long h =
+        rw (all, first, lt-ltb w (length cs) h, long, add-one (m + w))
+
+    pub no-wrong : length cs ≤ w → refuted n ≡ modelled n (inFacts T cs k fs)
+    no-wrong h = rw (all, first, le-ltb w (length cs) h)
+
+-- the size line
+module _ (text : List ℕ) (at n : ℕ) (T : Table) (cs : List Sided) where
+  pub begins-bad : Line-bad text at 3 → refused 2 (n + 1) ≡ judge n (atStart T cs) (linesOf (drop at text))
+  begins-bad b = ap (refused 2) (add-one n) ∙ sym (judge-bad text at 3 n (atStart T cs) refl b)
+
+  pub begins-end : linesOf (drop at text) ≡ [] → refused 12 (n + 1) ≡ judge n (atStart T cs) (linesOf (drop at text))
+  unfolding ending
+  begins-end z = ap (refused 12) (add-one n) ∙ sym (judge-end n (atStart T cs) _ z)
+
+module _ (text : List ℕ) (at : ℕ) (l : Line) (to : ℕ) (f : Line-found text at 3 l to) where
+  t : Told l
+  t = found-told text at 3 l to f
+
+  w : saying l ≡ size (l .n0)
+  w = size-said l (size-word l (f .allowed))
+
+  module _ (n : ℕ) (T : Table) (cs : List Sided) (m : ℕ) (long : length T ≡ m) where
+    ranges-here : (b : Bool) → every (inRange m 0) (saidFields (saying l)) ≡ b → refusal (rows (atStart T cs) (saying l)) ≡ cond b 0 3
+    unfolding rows
+    ranges-here b h =
+        let g : every (inRange (length T) 0) (Ranges.size (l .n0) ∷ []) ≡ b = ap (λ (s : _). every (inRange m 0) (saidFields s)) (sym w) ∙ h in
+        ap (λ s. refusal (rows (atStart T cs) s)) w ∙ rw g
+
+    pub begins-ranges : every (inRange m 0) (saidFields (saying l)) ≡ false → refused 3 (n + 1) ≡ judge n (atStart T cs) (linesOf (drop at text))
+    begins-ranges h = ap (refused 3) (add-one n) ∙ sym (judge-refused text at 3 n (atStart T cs) refl l to f 3 (ranges-here false h) (λ (z : _≡_ {A = ℕ} 3 0). omega arith))
+
+  module _ (m : ℕ) (le : m ≤ 256) (h : every (inRange m 0) (saidFields (saying l)) ≡ true) where
+    own : l .n0 % 256 ≡ l .n0
+    own = byte (l .n0) (small l t m 0 le (omega arith) h .first)
+
+    pub sized : Sized (l .n0 % 256)
+    sized =
+        let b = in-range m 0 (Ranges.size (l .n0) ∷ []) (ap (λ s. every (inRange m 0) (saidFields s)) (sym w) ∙ h) in
+        record { least = omega (arith, own, b .0 .0); most = omega (arith, own, b .0 .1) }
+
+    pub begins : (n : ℕ) (T : Table) (cs : List Sided) → length T ≡ m
+        → judge (n + 1) (inFacts T cs (l .n0 % 256) []) (linesOf (drop to text)) ≡ judge n (atStart T cs) (linesOf (drop at text))
+    unfolding after
+    begins n T cs long =
+        sym (judge-next text at 3 n (atStart T cs) refl l to f (ranges-here n T cs m long true h)
+        ∙ ap (λ s. judge (suc n) (after (atStart T cs) s) (linesOf (drop to text))) w
+        ∙ rw (own, add-one n))

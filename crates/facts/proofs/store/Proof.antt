@@ -1,0 +1,60 @@
+-- `facts::store` meets its contract: the function of each word stores the fact that the word says. Assumes nothing.
+use borrow.Author.Needs.{needs}
+use Rattle.facts.proofs.FactLaws.{as-place, as-atom, as-edge, place-low, atom-low, edge-low, place-stored, atom-stored, edge-stored}
+use Rattle.facts.proofs.store.Statement.{statement}
+use Rattle.facts.proofs.store.Tie as tie
+
+cast-x : tie.Need-cast-x
+cast-x c = search needs
+
+cast-y : tie.Need-cast-y
+cast-y c = search needs
+
+set-place-requires : tie.Need-set-place-requires
+set-place-requires c κs = let s = c .before .before .before .before .before in place-low (s .args .l) (s .pre) (c .before .if1 .taken)
+
+returns : tie.Need-returns
+returns c =
+    let q = c .before .before in
+    let s = q .before .before .before .before in
+    λ n fs low t. place-stored _ _ _ _ _ _ n fs low t _ _ (as-place (s .args .l) (q .if1 .taken)) (c .set-place .ensures)
+
+set-atom-requires : tie.Need-set-atom-requires
+set-atom-requires c κs = let s = c .before .before .before .before .before .before .before in atom-low (s .args .l) (s .pre) (c .before .if2 .taken)
+
+returns-2 : tie.Need-returns-2
+returns-2 c =
+    let q = c .before .before in
+    let s = q .before .before .before .before .before .before in
+    λ n fs low t. atom-stored _ _ _ _ _ _ n fs low t _ _ (as-atom (s .args .l) (q .if2 .taken)) (c .set-atom .ensures)
+
+cast-z : tie.Need-cast-z
+cast-z c = search needs
+
+set-edge-requires : tie.Need-set-edge-requires
+set-edge-requires c κs =
+    let q = c .before .before in
+    let p = q .before .before in
+    let s = p .before .before .before .before in
+    edge-low (s .args .l) (s .pre) (p .if1 .left) (q .if2 .left)
+
+returns-3 : tie.Need-returns-3
+returns-3 c =
+    let q = c .before .before .before in
+    let p = q .before .before in
+    let s = p .before .before .before .before in
+    λ n fs low t. edge-stored _ _ _ _ _ _ n fs low t _ _ _ (as-edge (s .args .l) (p .if1 .left) (q .if2 .left)) (c .set-edge .ensures)
+
+pub store-spec : {M : Type 1} → statement M
+store-spec =
+    tie.close
+    (tie.spec
+    cast-x
+    cast-y
+    set-place-requires
+    returns
+    set-atom-requires
+    returns-2
+    cast-z
+    set-edge-requires
+    returns-3)
