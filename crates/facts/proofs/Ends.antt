@@ -40,7 +40,7 @@ use Rattle.heading.proofs.TableLaws.{byte}
 use Rattle.models.specs.Shown.{Below, Ranged, Sized, Tabled, Claimed, allSeated, interpShown}
 use Rattle.models.specs.Told.{Tells}
 use Rattle.models.proofs.InRange.{in-range}
-use Rattle.models.proofs.Trees.{All-map}
+use Rattle.alc.proofs.ListFacts.{All-map}
 use Rattle.models.proofs.Goals.{goal-length}
 use Rattle.models.proofs.Facts.{told-interp, told-placed}
 use Rattle.facts.specs.Asked.{Asked, inFacts}
