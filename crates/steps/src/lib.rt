@@ -125,6 +125,7 @@ pub fn judge_steps(
                 steps += 1;
                 n += 1;
                 at = next;
+                // the second premise waits under the first; where the goal closes, what is stored here says nothing
                 let under = t.under;
                 goals[base] = under;
                 if t.opens == 2 {
