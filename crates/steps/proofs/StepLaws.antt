@@ -7,7 +7,7 @@ use mathlib.Core.Bool.{Bool, true, false, not, cond, _&&_, _||_}
 use mathlib.Core.List.{List, [], _∷_, _++_, map}
 use mathlib.Core.Path.{_≡_, refl, sym, ap, ap₂, _∙_}
 use lib.Dec.{ltb, leb}
-use lib.ListN.{length, getD, drop, List·getD-append, List·getD-map, List·getD-eq-default, length-append}
+use lib.ListN.{length, getD, List·getD-append, List·getD-map, List·getD-eq-default}
 use lib.Seq.{getD-drop}
 use borrow.Author.Tests.{leb-true, ltb-true}
 use Rattle.lines.specs.Text.{words, rowOf, wordCount, stands as allowedAt}
@@ -17,16 +17,16 @@ use Rattle.alc.specs.Lists.{every}
 use Rattle.alc.specs.Rows.{refusal}
 use Rattle.alc.specs.Ranges.{inRange}
 use Rattle.alc.specs.Meaning.{everyBelow}
-use Rattle.alc.specs.Table.{Kind, Entry, Table, entry, entryOf}
+use Rattle.alc.specs.Table.{Kind, Table, entry, entryOf}
 use Rattle.alc.specs.Claims.{Sided, Goal}
 use Rattle.alc.specs.Rules
 use Rattle.alc.specs.Rules.{Step, stepFields, plan}
 use Rattle.alc.specs.Goals.{stepRows, premises, goalsAfter}
 use Rattle.alc.specs.Dossier.{Said, step, size, fact, unread, sayings, saying}
-use Rattle.alc.specs.Model.{Fact, places, has, edge}
-use Rattle.alc.specs.Shown.{kindAt, tableOf}
-use Rattle.alc.specs.Verdict.{State, rows, after}
-use Rattle.alc.proofs.ShownLaws.{table-length, table-at, lineAt}
+use Rattle.alc.specs.Model.{places, has, edge}
+use Rattle.alc.specs.Shown.{tableOf}
+use Rattle.alc.specs.Verdict.{rows, after}
+use Rattle.alc.proofs.ShownLaws.{table-length}
 use Rattle.goals.specs.declared.Turn.{Turn}
 use Rattle.goals.specs.Records.{stepOf, ruleRows, Turns}
 use Rattle.goals.proofs.RecordLaws.{below-at, and-left, and-right}

@@ -1,13 +1,12 @@
 -- The walk over the steps: the array holds the goals that are open, and the judge is where the walk is. A step writes only at the current
 -- goal and above it, so the goals that wait stay as they are. Assumes nothing.
-use Prim.Native.Nat.{ℕ, zero, suc, _+_, _-_, _≤_, _<_, _%_}
+use Prim.Native.Nat.{ℕ, zero, suc, _+_, _-_, _≤_, _<_}
 use native.Mathlib.Omega.{arith}
 use native.Mathlib.Numerals.{add-one}
 use native.Mathlib.Decide.{ℕ-discrete}
-use mathlib.Core.Bool.{Bool, true, false, not, cond, _&&_, _||_}
+use mathlib.Core.Bool.{cond}
 use mathlib.Core.List.{List, [], _∷_, _++_}
 use mathlib.Core.Path.{_≡_, refl, sym, ap, ap₂, subst, _∙_}
-use lib.Dec.{ltb, leb}
 use lib.ListN.{length, getD, set, drop, length-set}
 use lib.Seq.{getD-set-same, getD-set-other}
 use borrow.Author.Tests.{lt-ltb, le-ltb}
@@ -22,15 +21,15 @@ use Rattle.alc.specs.Claims.{Sided, Goal}
 use Rattle.alc.specs.Rules.{plan}
 use Rattle.alc.specs.Goals.{premises}
 use Rattle.alc.specs.Dossier.{saying}
-use Rattle.alc.specs.Shown.{Shows, tableOf}
-use Rattle.alc.specs.Verdict.{Verdict, proved, refused, State, rows, ending, judge}
+use Rattle.alc.specs.Shown.{records, Shows, tableOf}
+use Rattle.alc.specs.Verdict.{Verdict, proved, refused, rows, ending, judge}
 use Rattle.alc.specs.declared.Goal.{Goal as Records}
 use Rattle.alc.proofs.ShownLaws.{table-length}
 use Rattle.goals.specs.declared.Turn.{Turn}
 use Rattle.goals.specs.Records.{Leaves, none, one, two}
 use Rattle.heading.specs.Parts.{inSteps, Columns}
 use Rattle.heading.proofs.Judging.{judge-end, judge-bad, judge-next, judge-refused}
-use Rattle.steps.specs.Turning.{stepIn, turnRows, Turned}
+use Rattle.steps.specs.Turning.{stepIn, Turned}
 use Rattle.steps.proofs.StepLaws.{step-word, rows-5, rows-9, rows-turn, after-turn}
 
 -- what stands past the end of an array of goals
@@ -46,11 +45,11 @@ Stack gs (h ∷ hs) = Shows (getD gs (length hs) noGoal) h × Stack gs hs
 stays : (gs : List Records) (k : ℕ) (g : Records) (hs : List Goal) → length hs ≤ k → Stack gs hs → Stack (set gs k g) hs
 stays gs k g [] h s = tt
 stays gs k g (x ∷ hs) h s =
-    (ap (λ (r : Records). Rattle.alc.specs.Shown.records r) (getD-set-other gs k (length hs) g noGoal (omega arith)) ∙ s .0, stays gs k g hs (omega arith) (s .1))
+    (ap (λ (r : Records). records r) (getD-set-other gs k (length hs) g noGoal (omega arith)) ∙ s .0, stays gs k g hs (omega arith) (s .1))
 
 pushed : (gs : List Records) (k : ℕ) (g : Records) (x : Goal) (hs : List Goal) → k < length gs → k ≡ length hs → Shows g x → Stack gs hs → Stack (set gs k g) (x ∷ hs)
 pushed gs k g x hs l e sh s =
-    (ap (λ (j : ℕ). Rattle.alc.specs.Shown.records (getD (set gs k g) j noGoal)) (sym e) ∙ ap (λ (r : Records). Rattle.alc.specs.Shown.records r) (getD-set-same gs k g noGoal l) ∙ sh, stays gs k g hs (omega arith) s)
+    (ap (λ (j : ℕ). records (getD (set gs k g) j noGoal)) (sym e) ∙ ap (λ (r : Records). records r) (getD-set-same gs k g noGoal l) ∙ sh, stays gs k g hs (omega arith) s)
 
 module _ (text ks xs ys : List ℕ) (start before entries : ℕ) (claims : Records) where
   abbrev T : Table
@@ -162,7 +161,7 @@ module _ (text ks xs ys : List ℕ) (start before entries : ℕ) (claims : Recor
           turn-here : (x : Goal) (hs : List Goal) → «open» ≡ suc (length hs) → Stack gs (x ∷ hs) → Turned T entries l x (length hs) u
           turn-here x hs q s =
               let b : base ≡ length hs = omega arith in
-              subst (λ (k : ℕ). Turned T entries l x k u) b (d x (ap (λ (k : ℕ). Rattle.alc.specs.Shown.records (getD gs k noGoal)) b ∙ s .0))
+              subst (λ (k : ℕ). Turned T entries l x k u) b (d x (ap (λ (k : ℕ). records (getD gs k noGoal)) b ∙ s .0))
 
           rows-here : (cs : List Sided) (x : Goal) (hs : List Goal) → «open» ≡ suc (length hs) → Stack gs (x ∷ hs) → refusal (rows (inSteps T cs steps (x ∷ hs)) (saying l)) ≡ u .number
           rows-here cs x hs q s =

@@ -9,8 +9,8 @@ use lines::Line;
 use lines::Next;
 ghost use mathlib.Core.Path.{_≡_};
 ghost use mathlib.Core.List.{List, [], _∷_};
-ghost use Prim.Native.Nat.{ℕ, _+_, _-_, _<_, _≤_, _%_};
-ghost use lib.ListN.{length, getD, drop};
+ghost use Prim.Native.Nat.{_+_, _-_, _<_, _≤_, _%_};
+ghost use lib.ListN.{length, drop};
 ghost use Rattle.lines.specs.Text.{linesOf};
 ghost use Rattle.alc.specs.Claims.{Sided};
 ghost use Rattle.alc.specs.Table.{entry, entryOf};
@@ -125,6 +125,7 @@ pub fn judge_steps(
                 steps += 1;
                 n += 1;
                 at = next;
+                // the second premise waits under the first; where the goal closes, what is stored here says nothing
                 let under = t.under;
                 goals[base] = under;
                 if t.opens == 2 {

@@ -1,10 +1,10 @@
 -- `steps::judge_steps` meets its contract. The invariant: the array holds the goals that are open, and the judge is where the walk is. The
 -- measure is what is left of the text. Assumes nothing.
-use Prim.Native.Nat.{ℕ, suc, _+_, _-_, _≤_, _<_, _%_}
-use mathlib.Core.Path.{_≡_, refl, sym, ap, subst, _∙_}
+use Prim.Native.Nat.{ℕ, _-_}
+use mathlib.Core.Path.{_≡_, refl, sym, _∙_}
 use native.Mathlib.Omega.{arith}
 use mathlib.Core.List.{List, []}
-use lib.ListN.{length, drop, getD, set, length-set}
+use lib.ListN.{length, drop, getD}
 use denote.Ref.{now}
 use borrow.Author.Needs.{needs}
 use Rattle.lines.specs.Text.{linesOf}
@@ -52,7 +52,7 @@ found : (c : tie.After-l Inv-loop μ-loop) → Line-found (text (A c)) (A c .loo
 found c = when-found (text (A c)) (A c .loop .at) 2 (c .l .given .0 .0) (c .l .given .0 .1 .0) (sym (c .before .before .read .ensures) ∙ c .l .given .1)
 
 returns : tie.Need-returns Inv-loop μ-loop
-returns c = let l = c .before .before in stops-5 _ _ _ _ _ _ _ _ _ _ _ _ _ (A l .loop .inv) _ _ (found l) (c .if1 .taken)
+returns c = let l = c .before .before in stops-5 _ _ _ _ _ _ _ _ _ _ _ _ _ (A l .loop .inv) _ _ (found l) (omega (arith, c .if1 .taken))
 
 add-t28 : tie.Need-add-t28 Inv-loop μ-loop
 add-t28 c = search needs
@@ -164,7 +164,7 @@ none-left : (c : tie.After-enum-told2 Inv-loop μ-loop) → linesOf (drop (c .be
 none-left c = when-end _ _ _ (sym (c .before .before .read .ensures) ∙ c .enum-told2 .given .1)
 
 returns-5 : tie.Need-returns-5 Inv-loop μ-loop
-returns-5 c = stops-open _ _ _ _ _ _ _ _ _ _ _ _ _ (c .before .before .before .before .loop .inv) (none-left (c .before)) (c .if5 .taken)
+returns-5 c = stops-open _ _ _ _ _ _ _ _ _ _ _ _ _ (c .before .before .before .before .loop .inv) (none-left (c .before)) (omega (arith, c .if5 .taken))
 
 returns-6 : tie.Need-returns-6 Inv-loop μ-loop
 returns-6 c = stops-proved _ _ _ _ _ _ _ _ _ _ _ _ _ (c .before .before .before .before .loop .inv) (none-left (c .before)) (c .if5 .left)

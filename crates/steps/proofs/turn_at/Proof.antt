@@ -1,6 +1,6 @@
 -- `steps::turn_at` meets its contract: the ranges are the first row, and the others are those of the rule, at the entry of the table.
 -- Assumes nothing.
-use Prim.Native.Nat.{ℕ, _-_, _%_}
+use Prim.Native.Nat.{ℕ}
 use mathlib.Core.Path.{_≡_, refl, sym, ap, subst, _∙_}
 use native.Mathlib.Omega.{arith}
 use denote.Ref.{now}
