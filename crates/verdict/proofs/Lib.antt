@@ -1,0 +1,2 @@
+-- `Begins`: the rows before the first line.
+pub mod Begins
