@@ -4,10 +4,9 @@ use Prim.Native.Nat.{ℕ, suc, _+_, _≤_, _<_, _%_}
 use native.Mathlib.Omega.{arith}
 use native.Mathlib.Numerals.{add-one}
 use native.Mathlib.Decide.{decLt}
-use mathlib.Core.Bool.{Bool, true, false, not, cond}
+use mathlib.Core.Bool.{Bool, true, false, cond}
 use mathlib.Core.List.{List, [], _∷_, map}
 use mathlib.Core.Path.{_≡_, refl, sym, ap, subst, _∙_}
-use lib.Dec.{ltb, leb}
 use lib.ListN.{length, getD, drop, length-map, List·getD-eq-default}
 use lib.Seq.{length-take-le}
 use borrow.Author.Tests.{lt-ltb, le-ltb}
@@ -27,14 +26,14 @@ use Rattle.alc.specs.Meaning.{Interp}
 use Rattle.alc.specs.Claims.{Sided, claim, claimFields, good}
 use Rattle.alc.specs.Model.{Fact, interpOf, allPlaced}
 use Rattle.alc.specs.Dossier.{saying, size}
-use Rattle.alc.specs.Shown.{Shows, kindAt, recordOf, sidedOf, records, tableOf}
-use Rattle.alc.specs.Verdict.{Verdict, refuted, refused, rows, after, ending, modelled, judge}
+use Rattle.alc.specs.Shown.{Shows, kindAt, sidedOf, records, tableOf}
+use Rattle.alc.specs.Verdict.{refuted, refused, rows, after, ending, modelled, judge}
 use Rattle.alc.specs.declared.Goal.{Goal as Records}
 use Rattle.alc.proofs.Goal.{the-type}
 use Rattle.alc.proofs.ShownLaws.{table-length, table-at, all-back}
 use Rattle.heading.specs.Fields.{saidFields}
 use Rattle.heading.specs.Parts.{Columns, atStart}
-use Rattle.heading.proofs.Small.{Small, small}
+use Rattle.heading.proofs.Small.{small}
 use Rattle.heading.proofs.Judging.{judge-end, judge-bad, judge-next, judge-refused}
 use Rattle.heading.proofs.TableLaws.{byte}
 use Rattle.models.specs.Shown.{Below, Ranged, Sized, Tabled, Claimed, allSeated, interpShown}
@@ -43,7 +42,7 @@ use Rattle.models.proofs.InRange.{in-range}
 use Rattle.alc.proofs.ListFacts.{All-map}
 use Rattle.models.proofs.Goals.{goal-length}
 use Rattle.models.proofs.Facts.{told-interp, told-placed}
-use Rattle.facts.specs.Asked.{Asked, inFacts}
+use Rattle.facts.specs.Asked.{inFacts}
 use Rattle.facts.proofs.FactLaws.{found-told, size-word, size-said}
 
 -- what `models` asks of the table and of the claims

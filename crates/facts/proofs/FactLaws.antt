@@ -3,24 +3,23 @@
 use Prim.Native.Nat.{ℕ, _≤_, _<_, _%_}
 use native.Mathlib.Omega.{arith}
 use native.Mathlib.Decide.{ℕ-discrete}
-use mathlib.Core.Bool.{Bool, true, false, not, cond, _&&_, _||_}
-use mathlib.Core.List.{List, [], _∷_, _++_}
+use mathlib.Core.Bool.{Bool, true, false, not}
+use mathlib.Core.List.{List}
 use mathlib.Core.Path.{_≡_, refl, sym, ap, subst, _∙_}
-use lib.Dec.{eqb, leb}
 use lib.ListN.{length, getD, drop}
-use borrow.Author.Tests.{eq-eqb, ne-eqb, eqb-true, leb-true}
+use borrow.Author.Tests.{ne-eqb}
 use Rattle.lines.specs.Text.{words, rowOf, wordCount, stands as allowedAt, linesOf}
 use Rattle.lines.specs.declared.Line.{Line}
 use Rattle.lines.proofs.Told.{Told, told}
 use Rattle.lines.proofs.Loop.{Line-found}
 use Rattle.lines.proofs.Words.{spans, within-low, within-high}
 use Rattle.alc.specs.Lists.{All, every}
-use Rattle.alc.specs.Ranges.{Field, inRange}
+use Rattle.alc.specs.Ranges.{inRange}
 use Rattle.alc.specs.Rows.{refusal}
 use Rattle.alc.specs.Table.{Table}
 use Rattle.alc.specs.Claims.{Sided}
 use Rattle.alc.specs.Model.{Fact, places, has, edge, factFields, repeats}
-use Rattle.alc.specs.Dossier.{Said, size, fact, unread, sayings, saying}
+use Rattle.alc.specs.Dossier.{size, fact, unread, sayings, saying}
 use Rattle.alc.specs.Verdict.{rows}
 use Rattle.heading.specs.Fields.{saidFields}
 use Rattle.heading.proofs.Small.{Small, small}

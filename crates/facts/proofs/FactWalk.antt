@@ -1,10 +1,10 @@
 -- The walk over the facts of a model: the arrays tell the facts read so far, and the judge is where the walk is. Assumes nothing.
-use Prim.Native.Nat.{ℕ, suc, _+_, _≤_, _<_}
+use Prim.Native.Nat.{ℕ, suc, _+_, _≤_}
 use native.Mathlib.Omega.{arith}
 use native.Mathlib.Numerals.{add-one}
-use mathlib.Core.Bool.{Bool, true, false, not}
+use mathlib.Core.Bool.{Bool, true, false}
 use mathlib.Core.List.{List, [], _∷_, _++_}
-use mathlib.Core.Path.{_≡_, refl, sym, ap, ap₂, _∙_}
+use mathlib.Core.Path.{_≡_, refl, sym, ap₂, _∙_}
 use lib.ListN.{length, drop}
 use Rattle.lines.specs.Text.{linesOf}
 use Rattle.lines.specs.declared.Line.{Line}
@@ -12,11 +12,9 @@ use Rattle.lines.proofs.Told.{Told}
 use Rattle.lines.proofs.Loop.{Line-found, Line-bad}
 use Rattle.alc.specs.Lists.{All, every}
 use Rattle.alc.specs.Ranges.{inRange}
-use Rattle.alc.specs.Table.{Table}
-use Rattle.alc.specs.Claims.{Sided}
-use Rattle.alc.specs.Model.{Fact, factFields, repeats}
+use Rattle.alc.specs.Model.{Fact, factFields}
 use Rattle.alc.specs.Dossier.{saying}
-use Rattle.alc.specs.Verdict.{Verdict, refused, after, ending, modelled, judge}
+use Rattle.alc.specs.Verdict.{refused, after, ending, modelled, judge}
 use Rattle.heading.specs.Fields.{saidFields}
 use Rattle.heading.proofs.Judging.{judge-end, judge-bad, judge-next, judge-refused}
 use Rattle.models.specs.Shown.{Below}

@@ -1,6 +1,6 @@
 -- What the judging of a model asks of its caller, the fact that a line is, and what storing it does.
 -- Assumes nothing.
-use Prim.Native.Nat.{ℕ, _≤_, _<_, _%_}
+use Prim.Native.Nat.{ℕ, _≤_, _%_}
 use mathlib.Core.Bool.{Bool, true, not, cond}
 use mathlib.Core.List.{List, [], _∷_, _++_, map}
 use mathlib.Core.Path.{_≡_}
@@ -11,12 +11,11 @@ use Rattle.alc.specs.Lists.{All, every}
 use Rattle.alc.specs.Ranges.{inRange}
 use Rattle.alc.specs.Table.{Table}
 use Rattle.alc.specs.Claims.{Sided, claim, claimFields}
-use Rattle.alc.specs.Model.{Fact, places, has, edge, factFields, repeats}
+use Rattle.alc.specs.Model.{Fact, places, has, edge, repeats}
 use Rattle.alc.specs.Shown.{sidedOf, records}
 use Rattle.alc.specs.declared.Goal.{Goal as Records}
 use Rattle.alc.specs.Verdict.{State, facts}
 use Rattle.heading.specs.Parts.{Columns}
-use Rattle.models.specs.Shown.{Below, seatsOf}
 use Rattle.models.specs.Told.{Tells}
 
 -- a place in the text behind so many lines, a table in columns, up to 64 claims with their numbers in range

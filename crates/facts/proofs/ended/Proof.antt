@@ -1,8 +1,10 @@
 -- `facts::ended` meets its contract: the arrays place the names and judge the claims as the facts do. Assumes nothing.
-use mathlib.Core.Path.{_≡_, sym, _∙_}
+use mathlib.Core.Path.{sym, _∙_}
 use native.Mathlib.Omega.{arith}
 use denote.Ref.{now}
 use borrow.Author.Needs.{needs}
+use Rattle.alc.specs.Table.{Table}
+use Rattle.alc.specs.Shown.{tableOf}
 use borrow.Author.Tests.{not-true, not-false}
 use Rattle.alc.proofs.ShownLaws.{table-length}
 use Rattle.models.proofs.Agree.{claimed-more}
@@ -10,14 +12,14 @@ use Rattle.facts.proofs.Ends.{shown-length, unplaced, wrong-claim, no-w
 use Rattle.facts.proofs.ended.Statement.{statement}
 use Rattle.facts.proofs.ended.Tie as tie
 
+abbrev T : tie.Start → Table
+T s = tableOf (now (s .args .kinds)) (now (s .args .firsts)) (now (s .args .seconds)) (s .args .entries)
+
 all-placed-requires : tie.Need-all-placed-requires
 all-placed-requires c κs = claimed-more _ 256 _ (c .pre .1 .0 .few) (c .pre .1 .1 .1 .0)
 
-add-t14 : tie.Need-add-t14
-add-t14 c = search needs
-
 returns : tie.Need-returns
-returns c = λ fs cs t h. unplaced _ _ _ fs _ _ _ t (c .before .before .args .claims) cs h _ (c .before .all-placed .ensures) (not-true _ (c .if1 .taken))
+returns c = λ fs cs t h. unplaced _ _ _ fs _ _ _ t (c .before .before .args .claims) cs h _ (c .before .all-placed .ensures) (not-true (c .before .all-placed .result) (c .if1 .taken))
 
 countered-requires : tie.Need-countered-requires
 countered-requires c κs =
@@ -26,38 +28,32 @@ countered-requires c κs =
       table = p .1 .0;
       sized = p .1 .1 .0;
       claims = p .1 .1 .1 .0;
-      seats = record { placed = sym (c .before .all-placed .ensures) ∙ not-false _ (c .if1 .left); inside = p .1 .1 .1 .1 };
+      seats = record { placed = sym (c .before .all-placed .ensures) ∙ not-false (c .before .all-placed .result) (c .if1 .left); inside = p .1 .1 .1 .1 };
     }
-
-add-t15 : tie.Need-add-t15
-add-t15 c = search needs
-
-add-t16 : tie.Need-add-t16
-add-t16 c = search needs
 
 returns-2 : tie.Need-returns-2
 returns-2 c =
     let w = c .before .before in
     let e = w .before in
     let s = e .before .before in
-    λ fs cs t h. wrong-claim _ _ _ fs _ _ _ t (s .args .claims) cs h _ (e .before .all-placed .ensures) (not-false _ (e .if1 .left)) _ (w .countered .ensures) _ (table-length _ _ _ _) (omega (arith, shown-length (s .args .claims) cs h _ (s .good .0) (s .pre .1 .1 .1 .0 .few), c .if2 .taken))
+    λ fs cs t h. wrong-claim _ (T s) _ fs _ _ _ t (s .args .claims) cs h _ (e .before .all-placed .ensures) (not-false (e .before .all-placed .result) (e .if1 .left)) _ (w .countered .ensures) _ (table-length _ _ _ _) (omega (arith, shown-length (s .args .claims) cs h _ (s .good .0) (s .pre .1 .1 .1 .0 .few), c .if2 .taken))
 
 returns-3 : tie.Need-returns-3
 returns-3 c =
     let w = c .before .before in
     let e = w .before in
     let s = e .before .before in
-    λ fs cs t h. no-wrong _ _ _ fs _ _ _ t (s .args .claims) cs h _ (e .before .all-placed .ensures) (not-false _ (e .if1 .left)) _ (w .countered .ensures) (omega (arith, shown-length (s .args .claims) cs h _ (s .good .0) (s .pre .1 .1 .1 .0 .few), c .if2 .left))
+    λ fs cs t h. no-wrong _ (T s) _ fs _ _ _ t (s .args .claims) cs h _ (e .before .all-placed .ensures) (not-false (e .before .all-placed .result) (e .if1 .left)) _ (w .countered .ensures) (omega (arith, shown-length (s .args .claims) cs h _ (s .good .0) (s .pre .1 .1 .1 .0 .few), c .if2 .left))
 
 pub ended-spec : {M : Type 1} → statement M
 ended-spec =
     tie.close
     (tie.spec
     all-placed-requires
-    add-t14
+    (λ c. search needs)
     returns
     countered-requires
-    add-t15
-    add-t16
+    (λ c. search needs)
+    (λ c. search needs)
     returns-2
     returns-3)

@@ -1,16 +1,20 @@
 -- `facts::judge_facts` meets its contract: blank arrays tell no fact, and what is read into them is what the end judges by. Assumes nothing.
-use Prim.Native.Nat.{suc, _+_}
-use mathlib.Core.Path.{_≡_, sym, ap, _∙_}
+use mathlib.Core.Path.{sym, ap, _∙_}
 use native.Mathlib.Omega.{arith}
 use native.Mathlib.Numerals.{add-one}
 use denote.Ref.{now}
 use borrow.Author.Needs.{needs}
+use Rattle.alc.specs.Table.{Table}
+use Rattle.alc.specs.Shown.{tableOf}
 use Rattle.alc.specs.Verdict.{refused}
 use Rattle.alc.proofs.ShownLaws.{table-length}
 use Rattle.models.proofs.Facts.{none-told}
 use Rattle.facts.proofs.Ends.{tabled, claimed}
 use Rattle.facts.proofs.judge_facts.Statement.{statement}
 use Rattle.facts.proofs.judge_facts.Tie as tie
+
+abbrev T : tie.Start → Table
+T s = tableOf (now (s .args .kinds)) (now (s .args .firsts)) (now (s .args .seconds)) (s .args .entries)
 
 read-facts-requires : tie.Need-read-facts-requires
 read-facts-requires c κs =
@@ -24,7 +28,8 @@ add-t18 c = search needs
 returns : tie.Need-returns
 returns c =
     let r = c .before .before .before in
-    λ cs h. ap (refused (r .read-facts .result .number)) (add-one (r .read-facts .result .lines)) ∙ sym (r .read-facts .ensures .refusal (c .before .if1 .taken) _ cs (table-length _ _ _ _))
+    let s = r .before .before .before .before .before in
+    λ cs h. ap (refused (r .read-facts .result .number)) (add-one (r .read-facts .result .lines)) ∙ sym (r .read-facts .ensures .refusal (c .before .if1 .taken) (T s) cs (table-length _ _ _ _))
 
 ended-requires : tie.Need-ended-requires
 ended-requires c κs =
@@ -38,7 +43,8 @@ returns-2 : tie.Need-returns-2
 returns-2 c =
     let e = c .before .before .before .before in
     let r = e .before .before .read-facts .ensures in
-    λ cs h. c .ended .ensures (r .facts) cs (r .told (e .if1 .left)) h ∙ sym (r .left (e .if1 .left) _ cs (table-length _ _ _ _))
+    let s = e .before .before .before .before .before .before .before in
+    λ cs h. c .ended .ensures (r .facts) cs (r .told (e .if1 .left)) h ∙ sym (r .left (e .if1 .left) (T s) cs (table-length _ _ _ _))
 
 pub judge-facts-spec : {M : Type 1} → statement M
 judge-facts-spec =

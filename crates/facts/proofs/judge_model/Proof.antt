@@ -1,7 +1,6 @@
 -- `facts::judge_model` meets its contract: the first line is judged as a size, and the lines behind it as facts of a model of that size.
 -- Assumes nothing.
-use Prim.Native.Nat.{_+_}
-use mathlib.Core.Path.{_≡_, sym, _∙_}
+use mathlib.Core.Path.{sym, _∙_}
 use native.Mathlib.Omega.{arith}
 use denote.Ref.{now}
 use borrow.Author.Needs.{needs}

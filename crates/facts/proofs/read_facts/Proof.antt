@@ -1,6 +1,6 @@
 -- `facts::read_facts` meets its contract. The invariant: the arrays tell the facts read, and the judge is where the walk is. The measure
 -- is what is left of the text. Assumes nothing.
-use Prim.Native.Nat.{ℕ, suc, _+_, _-_, _≤_, _<_}
+use Prim.Native.Nat.{ℕ, suc, _-_}
 use mathlib.Core.Path.{_≡_, refl, sym, _∙_}
 use mathlib.Core.Bool.{true}
 use mathlib.Core.List.{List}
@@ -15,7 +15,6 @@ use Rattle.alc.specs.Ranges.{inRange}
 use Rattle.alc.specs.Dossier.{saying}
 use Rattle.alc.specs.Verdict.{refused}
 use Rattle.heading.specs.Fields.{saidFields}
-use Rattle.facts.specs.Asked.{factIn, Stored}
 use Rattle.facts.specs.Read.{Judged, FactsRead}
 use Rattle.facts.proofs.FactLaws.{found-told}
 use Rattle.facts.proofs.FactWalk.{Walk, walk-begin, walk-more, line-small, line-fits, stops-bad, stops-end, stops-ranges, stops-repeat}
@@ -65,7 +64,7 @@ returns c =
     let l = r .before .before in
     let a = A l in
     let p = a .before .before .pre .0 in
-    stopped a 3 _ _ _ (λ (z : _≡_ {A = ℕ} 3 0). omega arith) (stops-ranges _ _ _ _ _ _ _ _ (p .2) (p .3) _ _ (a .loop .inv) _ _ (found l) (sym (r .ranged .ensures) ∙ not-true _ (c .if1 .taken)))
+    stopped a 3 _ _ _ (λ (z : _≡_ {A = ℕ} 3 0). omega arith) (stops-ranges _ _ _ _ _ _ _ _ (p .2) (p .3) _ _ (a .loop .inv) _ _ (found l) (sym (r .ranged .ensures) ∙ not-true (r .ranged .result) (c .if1 .taken)))
 
 -- the line's numbers are in range
 abbrev L : tie.Else1 Inv-loop μ-loop → tie.After-l Inv-loop μ-loop
@@ -73,7 +72,7 @@ L c = c .before .before .before
 
 ranges : (c : tie.Else1 Inv-loop μ-loop)
     → every (inRange (A (L c) .before .before .args .entries) (A (L c) .before .before .args .size)) (saidFields (saying (L c .l .given .0 .0))) ≡ true
-ranges c = sym (c .before .ranged .ensures) ∙ not-false _ (c .if1 .left)
+ranges c = sym (c .before .ranged .ensures) ∙ not-false (c .before .ranged .result) (c .if1 .left)
 
 store-requires : tie.Need-store-requires Inv-loop μ-loop
 store-requires c κs =
@@ -91,7 +90,7 @@ returns-2 c =
     let v = a .loop .inv in
     let low = line-fits _ _ _ _ _ _ _ _ (p .2) (p .3) _ _ v _ _ (found (L e)) (ranges e) in
     stopped a 4 _ _ _ (λ (z : _≡_ {A = ℕ} 4 0). omega arith)
-    (stops-repeat _ _ _ _ _ _ _ _ (p .2) (p .3) _ _ v _ _ (found (L e)) (ranges e) _ _ _ _ (s .store .ensures _ (v .facts) low (v .tells)) (not-true _ (c .if2 .taken)))
+    (stops-repeat _ _ _ _ _ _ _ _ (p .2) (p .3) _ _ v _ _ (found (L e)) (ranges e) _ _ _ _ (s .store .ensures _ (v .facts) low (v .tells)) (not-true (s .store .result) (c .if2 .taken)))
 
 abbrev E : tie.Else2 Inv-loop μ-loop → tie.Else1 Inv-loop μ-loop
 E c = c .before .before .before .before .before
@@ -110,7 +109,7 @@ loop-again c =
     let p = a .before .before .pre .0 in
     let v = a .loop .inv in
     let low = line-fits _ _ _ _ _ _ _ _ (p .2) (p .3) _ _ v _ _ (found (L e)) (ranges e) in
-    walk-more _ _ _ _ _ _ _ _ (p .2) (p .3) _ _ v _ _ (found (L e)) (ranges e) _ _ _ _ (s .store .ensures _ (v .facts) low (v .tells)) (not-false _ (c .if2 .left))
+    walk-more _ _ _ _ _ _ _ _ (p .2) (p .3) _ _ v _ _ (found (L e)) (ranges e) _ _ _ _ (s .store .ensures _ (v .facts) low (v .tells)) (not-false (s .store .result) (c .if2 .left))
 
 enum-told : tie.Need-enum-told Inv-loop μ-loop
 enum-told c = search needs
