@@ -1,6 +1,6 @@
 -- What the code's records and arrays show is shown without loss: a claim comes back from its record, and a line of the columns is the
 -- line of the table. Assumes nothing.
-use Prim.Native.Nat.{ℕ, zero, suc, _+_, _<_, _≤_}
+use Prim.Native.Nat.{ℕ, zero, suc, _+_, _<_}
 use native.Mathlib.Omega.{arith}
 use native.Mathlib.Decide.{ℕ-discrete}
 use native.Mathlib.Nat.{not-suc-le-zero}
@@ -9,9 +9,9 @@ use mathlib.Core.List.{List, [], _∷_, _++_, map}
 use mathlib.Core.Path.{_≡_, refl, sym, ap, _∙_}
 use lib.ListN.{length, getD, set, length-append, List·getD-append}
 use lib.Seq.{getD-append-add, getD-set-same, getD-set-other}
-use Rattle.alc.specs.Table.{Kind, Entry, Table, entry, entryOf}
-use Rattle.alc.specs.Claims.{Claim, is, sub, link, Sided, left, right}
-use Rattle.alc.specs.Shown.{recordBy, recordOf, sidedOf, kindAt, tableOf}
+use Rattle.alc.specs.Table.{Entry, entryOf}
+use Rattle.alc.specs.Claims.{is, sub, link, Sided, left, right}
+use Rattle.alc.specs.Shown.{recordOf, sidedOf, kindAt, tableOf}
 
 pub shown-back : (s : Sided) → sidedOf (recordOf s) ≡ s
 shown-back (left (is a i)) = refl

@@ -7,7 +7,7 @@ use mathlib.Core.List.{List, [], _∷_}
 use mathlib.Core.Path.{_≡_}
 use Rattle.alc.specs.Lists.{any}
 use Rattle.alc.specs.Ranges.{Field, role, name, concept, namesIn}
-use Rattle.alc.specs.Meaning.{World, Interp, Placed, member, everyBelow}
+use Rattle.alc.specs.Meaning.{Interp, Placed, member, everyBelow}
 use Rattle.alc.specs.Table.{Table, treeOf}
 
 -- `is a i`: name a is in concept i. `sub i j`: i is included in j. `link r a b`

@@ -2,12 +2,12 @@
 -- Assumes nothing.
 use Prim.Native.Nat.{ℕ}
 use Prim.Native.String.{String}
-use mathlib.Core.Bool.{Bool, true, cond, _&&_}
+use mathlib.Core.Bool.{Bool, cond, _&&_}
 use mathlib.Core.List.{List, [], _∷_, _++_, map}
 use lib.Dec.{eqb}
 use lib.ListN.{take}
 use Rattle.lines.specs.Text.{bytes, same}
-use Rattle.alc.specs.Verdict.{Verdict, word, number, line, verdict}
+use Rattle.alc.specs.Verdict.{word, number, line, verdict}
 
 -- the text of these lines: byte 9 for a space, byte 10 behind each line
 abbrev pub text : List String → List ℕ

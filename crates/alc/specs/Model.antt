@@ -8,7 +8,7 @@ use lib.Dec.{eqb}
 use lib.ListN.{getD}
 use Rattle.alc.specs.Lists.{any, every, isEmpty}
 use Rattle.alc.specs.Ranges.{Field, role, atom, name, element}
-use Rattle.alc.specs.Meaning.{World, Interp}
+use Rattle.alc.specs.Meaning.{Interp}
 use Rattle.alc.specs.Claims.{Sided, claim, names}
 
 -- `name a d`: name a is at element d. `has A d`: d is in atom A. `edge r d e`: (d, e) is in role r

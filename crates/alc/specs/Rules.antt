@@ -5,7 +5,7 @@ use mathlib.Core.Bool.{Bool, true, false}
 use mathlib.Core.List.{List, [], _∷_}
 use Rattle.alc.specs.Ranges.{Field, role, name, concept}
 use Rattle.alc.specs.Table.{Table, Kind, entry, isA}
-use Rattle.alc.specs.Claims.{Claim, is, sub, link, Sided, left, right}
+use Rattle.alc.specs.Claims.{is, sub, link, Sided, left, right}
 
 -- a step's word, with its fields in the order of the file
 pub data Step : Type 0 where

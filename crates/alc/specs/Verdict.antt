@@ -2,9 +2,9 @@
 -- Assumes nothing.
 use Prim.Native.Nat.{ℕ, zero, suc, _+_}
 use Prim.Native.String.{String}
-use mathlib.Core.Bool.{Bool, true, false, not, cond, _&&_}
+use mathlib.Core.Bool.{Bool, false, not, cond}
 use mathlib.Core.List.{List, [], _∷_, _++_}
-use lib.Dec.{eqb, ltb, leb}
+use lib.Dec.{ltb, leb}
 use lib.ListN.{length}
 use Rattle.lines.specs.Text.{linesOf}
 use Rattle.lines.specs.declared.Item.{Item}
@@ -12,7 +12,7 @@ use Rattle.alc.specs.Lists.{every, isEmpty, firstAt}
 use Rattle.alc.specs.Rows.{Row, row, refusal}
 use Rattle.alc.specs.Ranges as Ranges
 use Rattle.alc.specs.Ranges.{Field, inRange}
-use Rattle.alc.specs.Table.{Table, Entry, stands, entryFields}
+use Rattle.alc.specs.Table.{Table, stands, entryFields}
 use Rattle.alc.specs.Claims.{Sided, Goal, claimFields, good}
 use Rattle.alc.specs.Claims as Claims
 use Rattle.alc.specs.Goals.{stepRows, goalsAfter}

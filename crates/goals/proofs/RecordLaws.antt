@@ -5,8 +5,8 @@ use native.Mathlib.Omega.{arith}
 use native.Mathlib.Nat.{le-refl, not-suc-le-zero}
 use native.Mathlib.Numerals.{add-one}
 use native.Mathlib.Decide.{ℕ-discrete, decLt}
-use mathlib.Core.Bool.{Bool, true, false, not, cond, _&&_, _||_, decide, decide-iff, true≢false, false≢true}
-use mathlib.Core.List.{List, [], _∷_, _++_, map}
+use mathlib.Core.Bool.{Bool, true, false, not, cond, _&&_, _||_, decide, false≢true}
+use mathlib.Core.List.{List, [], _∷_, _++_}
 use mathlib.Core.Path.{_≡_, refl, sym, ap, ap₂, _∙_}
 use lib.Dec.{eqb, ltb, leb}
 use lib.ListN.{length, getD, take, drop, set, drop-of-length-le, length-map, length-append, length-drop, length-set, List·getD-append}
@@ -15,13 +15,11 @@ use denote.Laws.{Is}
 use denote.Struct.Declared as declared
 use lib.Seq.{drop-cons, getD-take, getD-drop, getD-append-add, getD-set-same, getD-set-other, length-take-le, ext-getD}
 use borrow.Author.Tests.{eqb-true, eq-eqb, ne-eqb, lt-ltb, le-ltb, ltb-true, le-leb, leb-true}
-use Rattle.alc.specs.Lists.{any, every, firstAt, elem}
-use Rattle.alc.specs.Claims.{Claim, is, sub, link, Claim-discrete, Sided, left, right, Sided-discrete, Goal, same, has, without, names, claim}
+use Rattle.alc.specs.Lists.{any, every, firstAt}
 use Rattle.alc.specs.Rows.{refusal}
 use Rattle.alc.specs.Meaning.{everyBelow}
 use Rattle.alc.specs.Table.{Kind, Kind-discrete}
-use Rattle.alc.specs.Shown.{recordOf, sidedOf, records, blank, kindAt}
-use Rattle.alc.proofs.ShownLaws.{record-once}
+use Rattle.alc.specs.Shown.{records, blank, kindAt}
 use Rattle.alc.specs.declared.Claim.{Claim as Record}
 use Rattle.alc.specs.declared.Goal.{Goal as Records}
 use Rattle.alc.proofs.Goal.{the-type}
@@ -36,7 +34,7 @@ pub and-right : (a b : Bool) → (a && b) ≡ true → b ≡ true
 and-right true b h = h
 and-right false b h = absurd (false≢true h)
 
-and-end : (b : Bool) → b ≡ (b && true)
+pub and-end : (b : Bool) → b ≡ (b && true)
 and-end true = refl
 and-end false = refl
 
@@ -299,14 +297,15 @@ cond-same true c h = sym h
 cond-same false true h = h
 cond-same false false h = refl
 
-pub kind-asked : (a k : ℕ) → (a ≡ 8 → ⊥) → k < 8 → eqb a k ≡ asks a (kindAt k)
+pub kind-same : (a k : ℕ) → a < 8 → k < 8 → eqb a k ≡ decide (Kind-discrete (kindAt k) (kindAt a))
 unfolding agree
+kind-same a k h l = cond-same (eqb a k) _ (below-at (λ j. agree a j) 8 (below-at (λ b. everyBelow 8 (λ j. agree b j)) 8 agree-all a h) k l)
+
+pub kind-asked : (a k : ℕ) → (a ≡ 8 → ⊥) → k < 8 → eqb a k ≡ asks a (kindAt k)
 kind-asked a k n l = go (decLt a 8)
   where
     go : Dec (a < 8) → eqb a k ≡ asks a (kindAt k)
-    go (yes h) =
-        rw (ne-eqb a 8 n, lt-ltb a 8 h)
-        (cond-same (eqb a k) _ (below-at (λ j. agree a j) 8 (below-at (λ b. everyBelow 8 (λ j. agree b j)) 8 agree-all a h) k l))
+    go (yes h) = rw (ne-eqb a 8 n, lt-ltb a 8 h) (kind-same a k h l)
     go (no h) = rw (ne-eqb a 8 n, le-ltb a 8 (omega arith), ne-eqb a k (λ e. omega arith))
 
 pub any-asked : (a : ℕ) (k : Kind) → a ≡ 8 → true ≡ asks a k

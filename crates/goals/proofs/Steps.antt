@@ -4,17 +4,17 @@ use Prim.Native.Nat.{ℕ, zero, suc, _+_, _≤_, _<_}
 use native.Mathlib.Omega.{arith}
 use native.Mathlib.Decide.{ℕ-discrete}
 use native.Mathlib.Nat.{not-suc-le-zero, le-of-suc-le-suc}
-use mathlib.Core.Bool.{Bool, true, false, not, cond, _&&_, _||_, decide, decide-iff}
+use mathlib.Core.Bool.{Bool, true, false, not, cond, _&&_, _||_, decide-iff}
 use mathlib.Core.List.{List, [], _∷_, _++_, map}
 use mathlib.Core.Path.{_≡_, refl, sym, ap, ap₂, _∙_}
 use lib.Dec.{eqb, ltb, leb}
 use lib.ListN.{length, getD, length-map, length-append}
 use borrow.Author.Tests.{eqb-true, eq-eqb, leb-true}
-use Rattle.alc.specs.Lists.{any, every, isEmpty, elem, distinct}
-use Rattle.alc.specs.Rows.{Row, row, refusal}
+use Rattle.alc.specs.Lists.{any, every, elem}
+use Rattle.alc.specs.Rows.{refusal}
 use Rattle.alc.specs.Ranges.{inRange}
 use Rattle.alc.specs.Table.{Table}
-use Rattle.alc.specs.Claims.{Claim, is, sub, link, Claim-discrete, Sided, left, right, Sided-discrete, Goal, same, has, without}
+use Rattle.alc.specs.Claims.{is, sub, link, Claim-discrete, Sided, left, right, Sided-discrete, Goal, same, has, without}
 use Rattle.alc.specs.Rules.{Step, stepFields, Plan, plan}
 use Rattle.alc.specs.Goals.{avoids, areNew, rest, premises, stepRows}
 use Rattle.alc.specs.Shown.{recordOf, kindAt, Shows}
@@ -56,7 +56,7 @@ keeping-record true [] cs = refl
 keeping-record true (s ∷ ns) cs = lacking-record s cs
 
 -- names
-eqb-turn : (a b : ℕ) → eqb a b ≡ eqb b a
+pub eqb-turn : (a b : ℕ) → eqb a b ≡ eqb b a
 eqb-turn a b = bool-by (eqb a b) (eqb b a) (λ h. eq-eqb b a (sym (eqb-true a b h))) (λ h. eq-eqb a b (sym (eqb-true b a h)))
 
 lone : (b : Bool) → not b ≡ (not (b || false) && true)

@@ -9,7 +9,7 @@ use lib.ListN.{length, getD}
 use Rattle.alc.specs.Lists.{any, every}
 use Rattle.alc.specs.Rows.{Row, row, refusal}
 use Rattle.alc.specs.Table.{Kind, Kind-discrete}
-use Rattle.alc.specs.Claims.{Sided, Goal, has}
+use Rattle.alc.specs.Claims.{Goal, has}
 use Rattle.alc.specs.Rules
 use Rattle.alc.specs.Rules.{Step, Plan}
 use Rattle.alc.specs.Goals.{areNew, premises}

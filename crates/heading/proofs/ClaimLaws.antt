@@ -3,18 +3,17 @@ use Prim.Native.Nat.{ℕ, _≤_, _<_, _%_}
 use native.Mathlib.Omega.{arith}
 use native.Mathlib.Decide.{ℕ-discrete}
 use mathlib.Core.Bool.{Bool, true, false, cond}
-use mathlib.Core.List.{List, []}
+use mathlib.Core.List.{List}
 use mathlib.Core.Path.{_≡_, refl, sym, ap, _∙_}
 use lib.Dec.{eqb, ltb}
 use lib.ListN.{length, getD}
-use borrow.Author.Tests.{eq-eqb, ne-eqb}
 use Rattle.lines.specs.declared.Line.{Line}
 use Rattle.alc.specs.Lists.{every}
 use Rattle.alc.specs.Rows.{refusal}
 use Rattle.alc.specs.Ranges.{inRange}
 use Rattle.alc.specs.Table.{Table}
 use Rattle.alc.specs.Claims.{Claim, is, sub, link, Sided, left, right}
-use Rattle.alc.specs.Dossier.{Said, claim, unread, sayings, saying}
+use Rattle.alc.specs.Dossier.{claim, unread, sayings, saying}
 use Rattle.alc.specs.Shown.{recordBy, recordOf}
 use Rattle.alc.specs.Verdict.{rows}
 use Rattle.alc.specs.declared.Claim.{Claim as Record}

@@ -1,10 +1,10 @@
 -- The walk over the claims: the goal shows the claims read so far, and the judge is where the walk is. Assumes nothing.
-use Prim.Native.Nat.{ℕ, suc, _+_, _-_, _≤_, _<_}
+use Prim.Native.Nat.{ℕ, suc, _+_, _≤_, _<_}
 use native.Mathlib.Omega.{arith}
 use native.Mathlib.Numerals.{add-one}
 use mathlib.Core.Bool.{Bool, true, false, not, cond, _&&_, _||_}
-use mathlib.Core.List.{List, [], _∷_, _++_, map}
-use mathlib.Core.Path.{_≡_, refl, sym, ap, ap₂, subst, _∙_}
+use mathlib.Core.List.{List, [], _∷_, _++_}
+use mathlib.Core.Path.{_≡_, refl, sym, ap, ap₂, _∙_}
 use lib.Dec.{ltb, leb}
 use lib.ListN.{length, drop, length-append}
 use borrow.Author.Tests.{ltb-true, leb-true}
@@ -23,12 +23,12 @@ use Rattle.alc.specs.Dossier.{Said, claim, proof, model, saying}
 use Rattle.alc.specs.Shown.{Shows, records, recordOf}
 use Rattle.alc.specs.declared.Goal.{Goal as Records}
 use Rattle.alc.specs.declared.Claim.{Claim as Record}
-use Rattle.alc.specs.Verdict.{Verdict, refused, rows, after, ending, judge}
+use Rattle.alc.specs.Verdict.{refused, rows, after, ending, judge}
 use Rattle.goals.proofs.RecordLaws.{and-left, and-right, below-at}
 use Rattle.goals.proofs.Steps.{map-append}
 use Rattle.heading.specs.Fields.{saidFields}
-use Rattle.heading.specs.Parts.{sidedIn, claimRows, inClaims, inSteps, atStart, ClaimsRead}
-use Rattle.heading.proofs.Small.{Small, small}
+use Rattle.heading.specs.Parts.{sidedIn, claimRows, inClaims, inSteps, atStart}
+use Rattle.heading.proofs.Small.{small}
 use Rattle.heading.proofs.Judging.{judge-end, judge-bad, judge-next, judge-refused}
 use Rattle.heading.proofs.ClaimLaws.{claim-said, rows-claim}
 

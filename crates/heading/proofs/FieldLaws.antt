@@ -1,23 +1,22 @@
 -- The fields of a line and their ranges: the three columns of letters are the fields of the words, a table that is compared whole; and a
 -- field in its range is a byte. Assumes nothing.
-use Prim.Native.Nat.{ℕ, zero, suc, _≤_, _<_}
-use native.Mathlib.Omega.{arith}
+use Prim.Native.Nat.{ℕ, zero, suc, _<_}
 use native.Mathlib.Nat.{not-suc-le-zero, le-of-suc-le-suc}
-use mathlib.Core.Bool.{Bool, true, false, not, cond, _&&_, _||_}
+use mathlib.Core.Bool.{Bool, true, false, cond, _&&_}
 use mathlib.Core.List.{List, [], _∷_, _++_, map}
-use mathlib.Core.Path.{_≡_, refl, sym, ap, ap₂, _∙_}
+use mathlib.Core.Path.{_≡_, refl, sym, ap, _∙_}
 use lib.Dec.{eqb, ltb, leb}
-use lib.ListN.{length, getD, List·getD-map, length-map}
-use borrow.Author.Tests.{eq-eqb, ne-eqb, ltb-true, leb-true}
-use Rattle.lines.specs.Text.{wordCount, words, rowOf}
+use lib.ListN.{length, getD, List·getD-map}
+use borrow.Author.Tests.{ne-eqb}
+use Rattle.lines.specs.Text.{wordCount}
 use Rattle.lines.specs.declared.Line.{Line}
 use Rattle.alc.specs.Lists.{every}
 use Rattle.alc.specs.Ranges as Ranges
 use Rattle.alc.specs.Ranges.{Field, inRange}
-use Rattle.alc.specs.Meaning.{everyBelow}
-use Rattle.alc.specs.Claims.{Claim, Sided, left, right, claim, claimFields}
+use Rattle.alc.specs.Claims.{Claim, left, right, claim}
 use Rattle.alc.specs.Rules.{stepFields}
-use Rattle.alc.specs.Dossier.{Said, unread, sayings, saying}
+use Rattle.alc.specs.Dossier.{unread, sayings, saying}
+use Rattle.goals.proofs.RecordLaws.{and-end}
 use Rattle.heading.specs.Fields.{saidFields, fieldBy}
 
 abbrev pub firsts : List ℕ
@@ -28,10 +27,6 @@ seconds = 45 ∷ 45 ∷ 45 ∷ 45 ∷ 99 ∷ 99 ∷ 99 ∷ 99 ∷ 99 ∷ 99 ∷ 
 
 abbrev pub thirds : List ℕ
 thirds = 45 ∷ 45 ∷ 45 ∷ 45 ∷ 45 ∷ 45 ∷ 45 ∷ 45 ∷ 45 ∷ 45 ∷ 110 ∷ 45 ∷ 45 ∷ 45 ∷ 45 ∷ 110 ∷ 45 ∷ 45 ∷ 45 ∷ 45 ∷ 45 ∷ 45 ∷ 45 ∷ 45 ∷ 45 ∷ 45 ∷ 99 ∷ 110 ∷ 110 ∷ 110 ∷ 110 ∷ 110 ∷ 45 ∷ 45 ∷ 45 ∷ 100 ∷ []
-
-pub and-end : (b : Bool) → b ≡ (b && true)
-and-end true = refl
-and-end false = refl
 
 -- a field, by its letter
 module _ (e d k n : ℕ) where

@@ -1,12 +1,10 @@
 -- One line of the judge at a time, by what reading finds at a position: a line that passes its rows leads on, one that does not decides,
 -- and so does one that is not of the form. Assumes nothing.
-use Prim.Native.Nat.{ℕ, zero, suc, _+_, _≤_, _<_}
-use mathlib.Core.Bool.{Bool, true, false, not, cond}
-use mathlib.Core.List.{List, [], _∷_}
-use mathlib.Core.Path.{_≡_, refl, sym, ap, _∙_}
-use native.Mathlib.Omega.{arith}
+use Prim.Native.Nat.{ℕ, zero, suc}
+use mathlib.Core.List.{List, []}
+use mathlib.Core.Path.{_≡_, refl, ap, _∙_}
 use lib.ListN.{drop}
-use Rattle.lines.specs.Text.{linesOf, fit, stands}
+use Rattle.lines.specs.Text.{linesOf, fit}
 use Rattle.lines.specs.declared.Line.{Line}
 use Rattle.lines.specs.declared.Item.{Item}
 use Rattle.lines.specs.declared.Item.the-variants.{Says, Wrong}

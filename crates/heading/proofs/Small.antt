@@ -1,18 +1,17 @@
 -- The numbers of a line whose fields are in their ranges fit a byte: a field in its range does, and what is not said is 0. Assumes nothing.
-use Prim.Native.Nat.{ℕ, zero, suc, _≤_, _<_, _%_}
+use Prim.Native.Nat.{ℕ, _≤_, _<_}
 use native.Mathlib.Omega.{arith}
-use native.Mathlib.Nat.{not-suc-le-zero}
 use native.Mathlib.Decide.{ℕ-discrete}
-use mathlib.Core.Bool.{Bool, true, false, not, cond, _&&_, _||_, true≢false, false≢true}
-use mathlib.Core.List.{List, [], _∷_, _++_}
-use mathlib.Core.Path.{_≡_, refl, sym, ap, _∙_}
-use lib.Dec.{eqb, ltb, leb}
-use lib.ListN.{length, getD}
-use borrow.Author.Tests.{eq-eqb, ne-eqb, eqb-true, ltb-true, leb-true}
+use mathlib.Core.Bool.{Bool, true, false, _&&_, _||_, false≢true}
+use mathlib.Core.List.{List, [], _∷_}
+use mathlib.Core.Path.{_≡_, refl, sym, _∙_}
+use lib.Dec.{leb}
+use lib.ListN.{getD}
+use borrow.Author.Tests.{ne-eqb, ltb-true, leb-true}
 use Rattle.lines.specs.Text.{wordCount, words, rowOf}
 use Rattle.lines.specs.declared.Line.{Line}
 use Rattle.lines.proofs.Told.{Told}
-use Rattle.alc.specs.Lists.{every, any, elem}
+use Rattle.alc.specs.Lists.{every, elem}
 use Rattle.alc.specs.Ranges.{inRange}
 use Rattle.alc.specs.Meaning.{everyBelow}
 use Rattle.alc.specs.Dossier.{saying}

@@ -2,56 +2,35 @@
 -- stored. Assumes nothing.
 use Prim.Native.Nat.{ℕ, zero, suc, _+_, _≤_, _<_, _%_}
 use native.Mathlib.Omega.{arith}
-use native.Mathlib.Nat.{not-suc-le-zero}
 use native.Mathlib.Numerals.{add-one}
-use native.Mathlib.Decide.{ℕ-discrete}
-use mathlib.Core.Bool.{Bool, true, false, not, cond, decide, _&&_, _||_}
-use mathlib.Core.List.{List, [], _∷_, _++_}
-use mathlib.Core.Path.{_≡_, refl, sym, ap, ap₂, subst, _∙_}
+use mathlib.Core.Bool.{Bool, true, false, _&&_}
+use mathlib.Core.List.{List, _∷_}
+use mathlib.Core.Path.{_≡_, refl, sym, ap, ap₂, _∙_}
 use lib.Dec.{eqb, ltb}
-use lib.ListN.{length, getD, set, drop, drop-of-length-le}
-use lib.Seq.{drop-cons, getD-set-same, getD-set-other}
-use Rattle.lines.specs.Text.{words, rowOf, wordCount}
+use lib.ListN.{length, getD, drop, drop-of-length-le}
+use lib.Seq.{drop-cons}
+use Rattle.lines.specs.Text.{words, rowOf}
 use Rattle.lines.specs.declared.Line.{Line}
 use Rattle.lines.proofs.Told.{Told}
 use Rattle.alc.specs.Lists.{any, every}
 use Rattle.alc.specs.Rows.{refusal}
 use Rattle.alc.specs.Ranges.{inRange}
-use Rattle.alc.specs.Meaning.{everyBelow}
-use Rattle.alc.specs.Table.{Kind, Kind-discrete, Entry, Table, entryOf, sameEntry, stands, entryFields}
-use Rattle.alc.specs.Dossier.{Said, concept, unread, sayings, saying}
+use Rattle.alc.specs.Table.{Entry, Table, entryOf, sameEntry, stands}
+use Rattle.alc.specs.Dossier.{concept, unread, sayings, saying}
 use Rattle.alc.specs.Shown.{kindAt, tableOf}
-use Rattle.alc.specs.Verdict.{rows, after}
-use Rattle.alc.proofs.ShownLaws.{table-length, table-at, table-more}
-use Rattle.goals.proofs.RecordLaws.{below-at}
+use Rattle.alc.proofs.ShownLaws.{table-length, table-at}
+use Rattle.goals.proofs.RecordLaws.{kind-same}
+use Rattle.goals.proofs.Steps.{eqb-turn}
 use Rattle.heading.specs.Fields.{saidFields}
-use Rattle.heading.specs.Parts.{entryIn, entryRows, inTable, Columns}
+use Rattle.heading.specs.Parts.{entryIn, entryRows}
 use Rattle.heading.proofs.Small.{Small}
-
--- two kinds are the same exactly if their numbers are: a test of all pairs
-agree : ℕ → ℕ → Bool
-unfolding decide
-agree a k = cond (eqb a k) (decide (Kind-discrete (kindAt a) (kindAt k))) (not (decide (Kind-discrete (kindAt a) (kindAt k))))
-
-agree-all : everyBelow 8 (λ a. everyBelow 8 (λ k. agree a k)) ≡ true
-unfolding agree decide
-agree-all = refl
-
-cond-same : (b c : Bool) → cond b c (not c) ≡ true → b ≡ c
-cond-same true c h = sym h
-cond-same false true h = h
-cond-same false false h = refl
-
-kind-same : (a k : ℕ) → a < 8 → k < 8 → eqb a k ≡ decide (Kind-discrete (kindAt a) (kindAt k))
-unfolding agree
-kind-same a k h l = cond-same (eqb a k) _ (below-at (λ j. agree a j) 8 (below-at (λ b. everyBelow 8 (λ j. agree b j)) 8 agree-all a h) k l)
 
 and-turn : (a b c : Bool) → (a && (b && c)) ≡ ((a && b) && c)
 and-turn true b c = refl
 and-turn false b c = refl
 
 pub entry-same : (k x y j u v : ℕ) → k < 8 → j < 8 → (eqb k j && (eqb x u && eqb y v)) ≡ sameEntry (entryOf (kindAt k) x y) (entryOf (kindAt j) u v)
-entry-same k x y j u v h l = and-turn (eqb k j) (eqb x u) (eqb y v) ∙ ap (λ b. (b && eqb x u) && eqb y v) (kind-same k j h l)
+entry-same k x y j u v h l = and-turn (eqb k j) (eqb x u) (eqb y v) ∙ ap (λ b. (b && eqb x u) && eqb y v) (eqb-turn k j ∙ kind-same j k l h)
 
 -- one loop over the table: what is left at i
 module _ (ks xs ys : List ℕ) (n i : ℕ) (e : Entry) where

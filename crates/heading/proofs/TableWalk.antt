@@ -1,14 +1,14 @@
 -- The walk over the lines of the table: what has been stored is the table read so far, and the judge is where the walk is. Assumes nothing.
-use Prim.Native.Nat.{ℕ, zero, suc, _+_, _≤_, _<_, _%_}
+use Prim.Native.Nat.{ℕ, suc, _+_, _≤_, _<_, _%_}
 use native.Mathlib.Omega.{arith}
 use native.Mathlib.Nat.{not-suc-le-zero}
 use native.Mathlib.Numerals.{add-one}
 use native.Mathlib.Decide.{ℕ-discrete}
 use mathlib.Core.Bool.{Bool, true, false, not, cond, _&&_, _||_}
-use mathlib.Core.List.{List, [], _∷_, _++_}
-use mathlib.Core.Path.{_≡_, refl, sym, ap, ap₂, subst, _∙_}
+use mathlib.Core.List.{List, []}
+use mathlib.Core.Path.{_≡_, refl, sym, ap, ap₂, _∙_}
 use lib.Dec.{ltb, leb}
-use lib.ListN.{length, getD, set, drop, length-set}
+use lib.ListN.{length, getD, set, drop}
 use lib.Seq.{getD-set-same, getD-set-other}
 use borrow.Author.Tests.{le-leb, ltb-true}
 use Rattle.lines.specs.Text.{words, rowOf, wordCount, stands as allowedAt, linesOf}
@@ -23,11 +23,11 @@ use Rattle.alc.specs.Meaning.{everyBelow}
 use Rattle.alc.specs.Table.{Entry, Table, entryOf, stands, entryFields}
 use Rattle.alc.specs.Dossier.{Said, concept, claim, proof, model, step, size, fact, unread, saying}
 use Rattle.alc.specs.Shown.{kindAt, tableOf}
-use Rattle.alc.specs.Verdict.{Verdict, refused, State, rows, after, ending, judge, begin}
+use Rattle.alc.specs.Verdict.{refused, rows, after, ending, judge, begin}
 use Rattle.alc.proofs.ShownLaws.{table-length, table-more}
 use Rattle.goals.proofs.RecordLaws.{below-at}
 use Rattle.heading.specs.Fields.{saidFields}
-use Rattle.heading.specs.Parts.{entryIn, entryRows, inTable, inClaims, Columns, TableRead}
+use Rattle.heading.specs.Parts.{entryIn, entryRows, inTable, inClaims, Columns}
 use Rattle.heading.proofs.Small.{Small, small}
 use Rattle.heading.proofs.Judging.{judge-end, judge-bad, judge-next, judge-refused, unrolled, next}
 use Rattle.heading.proofs.TableLaws.{entry-said, said-entry}

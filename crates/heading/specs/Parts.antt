@@ -1,6 +1,6 @@
 -- What the loops over the parts of a dossier hold and come to, said by the definitions of `alc`.
 -- Assumes nothing.
-use Prim.Native.Nat.{ℕ, suc, _+_, _≤_, _<_, _%_}
+use Prim.Native.Nat.{ℕ, suc, _≤_, _<_, _%_}
 use mathlib.Core.Bool.{true, not, cond}
 use mathlib.Core.List.{List, [], _∷_}
 use mathlib.Core.Path.{_≡_}
@@ -16,7 +16,7 @@ use Rattle.alc.specs.Claims.{Claim, is, sub, link, Sided, left, right, Goal, cl
 use Rattle.alc.specs.Claims as Claims
 use Rattle.alc.specs.Dossier.{saying}
 use Rattle.alc.specs.Shown.{kindAt, tableOf, Shows}
-use Rattle.alc.specs.Verdict.{Verdict, refused, State, table, claims, steps, start, begin, judge}
+use Rattle.alc.specs.Verdict.{refused, State, table, claims, steps, start, begin, judge}
 use Rattle.heading.specs.declared.Listed.{Listed}
 use Rattle.heading.specs.declared.Heading.{Heading}
 use Rattle.heading.specs.Fields.{saidFields}

@@ -2,13 +2,13 @@
 -- are 0, since as many fields are numbers as the word takes. Assumes nothing.
 use Prim.Native.Nat.{ℕ, suc, _+_, _≤_, _<_}
 use mathlib.Core.List.{List, [], _∷_}
-use mathlib.Core.Path.{_≡_, refl, sym, ap, subst, _∙_}
+use mathlib.Core.Path.{_≡_, refl, ap, subst}
 use mathlib.Core.Bool.{Bool, true, false, cond, _&&_}
 use native.Mathlib.Omega.{arith}
-use lib.Dec.{eqb, leb}
+use lib.Dec.{leb}
 use lib.ListN.{length, getD, drop, List·getD-eq-default}
 use borrow.Author.Tests.{eqb-true, leb-true}
-use Rattle.lines.specs.Text.{cut, every, goodByte, value, valueFrom, isNumber, numbered, wordCount, rowOf, wordOf, sideOf, behindOf, lineBy, itemOf, lastOf, items, itemsOf, linesOf}
+use Rattle.lines.specs.Text.{cut, every, goodByte, value, valueFrom, isNumber, numbered, wordCount, rowOf, wordOf, sideOf, behindOf, lineBy, itemOf, lastOf, itemsOf, linesOf}
 use Rattle.lines.specs.declared.Line.{Line}
 use Rattle.lines.specs.declared.Item.{Item}
 use Rattle.lines.specs.declared.Item.the-variants.{Says, Wrong}

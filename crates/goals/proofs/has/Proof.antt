@@ -1,6 +1,6 @@
 -- `goals::has` meets its contract: the claim is there exactly if its first copy is. Assumes nothing.
 use Prim.Native.Nat.{ℕ}
-use mathlib.Core.Path.{sym, ap, ap₂, _∙_}
+use mathlib.Core.Path.{sym, ap₂, _∙_}
 use lib.Dec.{ltb}
 use borrow.Author.Needs.{needs}
 use Rattle.alc.specs.Shown.{records}

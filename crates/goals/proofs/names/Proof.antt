@@ -1,7 +1,4 @@
 -- `goals::names` meets its contract: a name stands in an `is` or a `link`, so the kind decides where to look. Assumes nothing.
-use mathlib.Core.Path.{sym, _∙_}
-use mathlib.Core.Bool.{_||_}
-use lib.Dec.{eqb}
 use borrow.Author.Tests.{eq-eqb, ne-eqb}
 use Rattle.goals.proofs.RecordLaws.{name-is, name-none, name-link}
 use Rattle.goals.proofs.names.Statement.{statement}

@@ -1,6 +1,6 @@
 -- `goals::occurs` meets its contract. The invariant: the name stands in the goal exactly if it stands in what is left from i on. The
 -- measure is what is left of the goal. Assumes nothing.
-use Prim.Native.Nat.{ℕ, _≤_, _-_}
+use Prim.Native.Nat.{_≤_, _-_}
 use mathlib.Core.Path.{_≡_, refl, sym, _∙_}
 use native.Mathlib.Omega.{arith}
 use lib.ListN.{drop}

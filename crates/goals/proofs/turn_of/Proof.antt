@@ -2,7 +2,7 @@
 use Prim.Native.Nat.{ℕ, _+_, _≤_, _<_}
 use mathlib.Core.Bool.{true}
 use mathlib.Core.List.{List, [], _++_, map}
-use mathlib.Core.Path.{_≡_, refl, sym, ap, subst, _∙_}
+use mathlib.Core.Path.{_≡_, sym, ap, subst, _∙_}
 use native.Mathlib.Omega.{arith}
 use lib.ListN.{length, getD}
 use lib.Dec.{leb}
@@ -14,7 +14,7 @@ use Rattle.alc.specs.Rows.{refusal}
 use Rattle.alc.specs.Rules.{Plan, plan}
 use Rattle.alc.specs.Goals.{premises}
 use Rattle.alc.specs.Shown.{kindAt, Shows, records, recordOf}
-use Rattle.goals.specs.Records.{stepOf, added, ruleRows, Plans, Turns}
+use Rattle.goals.specs.Records.{stepOf, added, ruleRows, Plans}
 use Rattle.goals.proofs.RecordLaws.{few-open, two-opens}
 use Rattle.goals.proofs.Steps.{held-rows, held-premise, open-shown, all-small, all-open, leaves-of}
 use Rattle.goals.proofs.turn_of.Statement.{statement}

@@ -1,22 +1,19 @@
 -- `heading::read_claims` meets its contract. The invariant: the goal shows the claims read so far, and the judge is where the walk is,
 -- whatever the table of so many lines. The measure is what is left of the text. Assumes nothing.
-use Prim.Native.Nat.{ℕ, suc, _+_, _-_, _≤_, _<_}
-use mathlib.Core.List.{List, [], _∷_}
-use mathlib.Core.Path.{_≡_, refl, sym, ap, _∙_}
+use Prim.Native.Nat.{ℕ, suc, _-_, _≤_}
+use mathlib.Core.List.{List, []}
+use mathlib.Core.Path.{_≡_, refl, sym, _∙_}
 use native.Mathlib.Omega.{arith}
-use native.Mathlib.Nat.{le-refl}
 use lib.ListN.{length, drop}
 use denote.Ref.{now}
 use borrow.Author.Needs.{needs}
-use Rattle.lines.specs.Text.{linesOf, wordCount}
+use Rattle.lines.specs.Text.{linesOf}
 use Rattle.lines.proofs.Loop.{Line-found, when-found, when-bad, when-end}
 use Rattle.lines.proofs.Told.{Told, told}
 use Rattle.alc.specs.Table.{Table}
-use Rattle.alc.specs.declared.Goal.{Goal as Records}
 use Rattle.alc.specs.Verdict.{refused, judge}
 use Rattle.goals.proofs.RecordLaws.{with-more, with-count}
-use Rattle.heading.specs.declared.Heading.{Heading}
-use Rattle.heading.specs.Parts.{inClaims, inSteps, atStart, ClaimsRead}
+use Rattle.heading.specs.Parts.{inClaims, ClaimsRead}
 use Rattle.heading.proofs.ClaimWalk.{Walk, walk-begin, walk-more, stops-bad, stops-end, stops-refused, turns-proof, turns-model, room, stands-among}
 use Rattle.heading.proofs.read_claims.Statement.{statement}
 use Rattle.heading.proofs.read_claims.Tie as tie

@@ -1,13 +1,13 @@
 -- `heading::repeated` meets its contract. The invariant: the entry stands in the table exactly if it stands in what is left from i on. The
 -- measure is what is left of the table. Assumes nothing.
-use Prim.Native.Nat.{ℕ, _≤_, _<_, _-_}
+use Prim.Native.Nat.{_≤_, _-_}
 use mathlib.Core.Path.{_≡_, refl, sym, _∙_}
 use native.Mathlib.Omega.{arith}
 use lib.ListN.{getD, drop}
 use denote.Ref.{now}
 use borrow.Author.Needs.{needs}
 use Rattle.alc.specs.Lists.{any}
-use Rattle.alc.specs.Table.{Entry, entryOf, sameEntry}
+use Rattle.alc.specs.Table.{entryOf, sameEntry}
 use Rattle.alc.specs.Shown.{kindAt, tableOf}
 use Rattle.heading.proofs.TableLaws.{entry-same, stands-here, stands-next, stands-end}
 use Rattle.heading.proofs.repeated.Statement.{statement}

@@ -1,8 +1,8 @@
 -- `verdict::judge` meets its contract: each part of the dossier is judged where the part before it left off. Assumes nothing.
-use Prim.Native.Nat.{ℕ, suc, _+_, _≤_, _<_}
-use mathlib.Core.List.{List, [], _∷_, map}
+use Prim.Native.Nat.{ℕ, _≤_}
+use mathlib.Core.List.{List, [], map}
 use mathlib.Core.Bool.{true}
-use mathlib.Core.Path.{_≡_, refl, sym, ap, ap₂, subst, _∙_}
+use mathlib.Core.Path.{_≡_, sym, ap, subst, _∙_}
 use native.Mathlib.Omega.{arith}
 use native.Mathlib.Numerals.{add-one}
 use lib.ListN.{length, drop}
@@ -13,10 +13,10 @@ use Rattle.alc.specs.Lists.{All, every}
 use Rattle.alc.specs.Ranges.{inRange}
 use Rattle.alc.specs.Claims.{Sided, claim, claimFields}
 use Rattle.alc.specs.Table.{Table}
-use Rattle.alc.specs.Shown.{tableOf, sidedOf, records, recordOf}
-use Rattle.alc.specs.Verdict.{Verdict, refused, judge as judgeFrom, begin, verdict}
+use Rattle.alc.specs.Shown.{tableOf, sidedOf, records}
+use Rattle.alc.specs.Verdict.{refused, judge as judgeFrom, begin, verdict}
 use Rattle.alc.proofs.ShownLaws.{table-length, all-back}
-use Rattle.heading.specs.Parts.{inClaims, inSteps, atStart, Columns, TableRead, ClaimsRead}
+use Rattle.heading.specs.Parts.{inClaims, TableRead, ClaimsRead}
 use Rattle.verdict.proofs.Begins.{verdict-long, verdict-short}
 use Rattle.verdict.proofs.judge.Statement.{statement}
 use Rattle.verdict.proofs.judge.Tie as tie
