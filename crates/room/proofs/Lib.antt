@@ -1,5 +1,8 @@
 -- `Says` and `Walk`: derivations over the MIR of a function, at any element type. `Claims`: the room's types and the contracts of its
--- functions.
+-- functions. `Covered`: the functions by value that they call. `Blank` and `Stored`: what the loops do to a list of records.
 pub mod Says
 pub mod Walk
 pub mod Claims
+pub mod Covered
+pub mod Blank
+pub mod Stored
