@@ -1,6 +1,5 @@
 -- The types of the room's functions as the rules take them, the facts about them that `search` needs, and the contracts. A claim record is
--- seven bytes of plain data, so a place in the room lies seven times its number on; the rules hold at any such type.
--- Assumes nothing.
+-- seven bytes of plain data, so a place in the room lies seven times its number on; the rules hold at any such type. Assumes nothing.
 use mathlib.Core.Path.{_≡_, refl}
 use mathlib.Core.List.{[], _∷_}
 use Prim.Native.Nat.{ℕ, _<_, _≤_, _+_}

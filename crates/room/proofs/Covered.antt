@@ -1,5 +1,5 @@
--- The functions by value that the functions over the room call, as a caller takes them. Each is proved by its own module, which is cited.
--- Assumes nothing.
+-- The functions by value that the functions over the room call, as a caller takes them. Each is known by
+-- its own theorem, which Rattle's modules of it state. Assumes nothing.
 use mathlib.Core.Path.{_≡_}
 use prog.Routine.{Env}
 use borrow.Fn.World.{World}

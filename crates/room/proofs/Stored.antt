@@ -1,10 +1,10 @@
--- Records that are stored in a room, and fetched from it, one by one.
--- Assumes nothing.
-use mathlib.Core.Path.{_≡_, refl, ap, sym, subst, _∙_}
+-- Records that are stored in a room, and fetched from it, one by one: each law is a clause of the definition, at the number that a loop
+-- counts; and a store changes no length. Assumes nothing.
+use mathlib.Core.Path.{_≡_, refl, _∙_}
 use mathlib.Core.List.{List}
 use Prim.Native.Nat.{ℕ, zero, suc, _+_}
 use native.Mathlib.Numerals.{add-one}
-use lib.ListN.{length, set, getD, length-set, length-replicate}
+use lib.ListN.{length, set, getD, length-set}
 use Rattle.alc.specs.Shown.{blank}
 use Rattle.room.specs.Stored.{blanks, stored, fetched}
 use Rattle.alc.specs.declared.Claim.{Claim}
@@ -12,7 +12,7 @@ use Rattle.alc.specs.declared.Claim.{Claim}
 pub stored-length : (l : List Claim) (b : ℕ) (cs : List Claim) (n : ℕ) → length (stored l b cs n) ≡ length l
 unfolding stored
 stored-length l b cs zero = refl
-stored-length l b cs (suc n) = length-set (stored l b cs n) (b + n) (getD cs n blank) ∙ stored-length l b cs n
+stored-length l b cs (suc n) = length-set (stored l b cs n) _ _ ∙ stored-length l b cs n
 
 pub stored-none : (l : List Claim) (b : ℕ) (cs : List Claim) → l ≡ stored l b cs 0
 unfolding stored

@@ -1,5 +1,5 @@
--- `room::blank_all` meets its contract. The loop's invariant: the first i records are blank, and the others are as they were.
--- Assumes nothing.
+-- `room::blank_all` meets its contract. The invariant: the first i records are blank, and the others are as they were; at the end no others
+-- are left. The measure is how many are left. Assumes nothing.
 use mathlib.Core.Path.{_≡_, refl, ap, _∙_}
 use mathlib.Core.List.{List, [], _∷_, _++_}
 use Prim.Native.Nat.{ℕ, _≤_, _-_, _+_, _<_}

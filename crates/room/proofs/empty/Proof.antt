@@ -1,5 +1,4 @@
--- `room::empty` meets its contract.
--- Assumes nothing.
+-- `room::empty` meets its contract: the record that is repeated is the blank one. Assumes nothing.
 use borrow.Author.Needs.{needs}
 use Rattle.room.specs.Stored.{blanks}
 use Rattle.room.proofs.empty.Statement.{statement}

@@ -1,5 +1,5 @@
--- `room::fetch` meets its contract. The loop's invariant: the goal has the first i records, and the room is as it was.
--- Assumes nothing.
+-- `room::fetch` meets its contract. The invariant: the goal has the first i records from base on, and the room is as it was; a turn sets the
+-- next, as the definition does. The measure is how many are left. Assumes nothing.
 use mathlib.Core.Path.{_≡_, refl, ap, _∙_}
 use mathlib.Core.List.{List, [], _∷_}
 use Prim.Native.Nat.{ℕ, _≤_, _-_, _+_, _<_}

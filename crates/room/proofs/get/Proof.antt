@@ -1,5 +1,5 @@
--- `room::get` meets its contract.
--- Assumes nothing.
+-- `room::get` meets its contract: the record is read seven times its place on, where the rule for a load from a slice has that place, and a
+-- load changes nothing. The product fits, since the whole room does. Assumes nothing.
 use mathlib.Core.Path.{refl}
 use mathlib.Core.List.{[], _∷_}
 use mir.Syntax.{w64, mul, unsigned, offset, field, named}

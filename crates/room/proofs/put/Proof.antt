@@ -1,5 +1,5 @@
--- `room::put` meets its contract.
--- Assumes nothing.
+-- `room::put` meets its contract: the record is written seven times its place on, where the rule for a store into a slice has that place,
+-- and no other place changes. The product fits, since the whole room does. Assumes nothing.
 use mathlib.Core.Path.{refl}
 use mathlib.Core.List.{[], _∷_}
 use lib.ListN.{set, length-set}

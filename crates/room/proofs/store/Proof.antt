@@ -1,5 +1,5 @@
--- `room::store` meets its contract. The loop's invariant: the first i records of the goal are stored.
--- Assumes nothing.
+-- `room::store` meets its contract. The invariant: the room has the first i records of the goal stored, from base on; a turn stores the
+-- next, as the definition does. The measure is how many are left. Assumes nothing.
 use mathlib.Core.Path.{_≡_, refl, ap, _∙_}
 use mathlib.Core.List.{List, [], _∷_}
 use Prim.Native.Nat.{ℕ, _≤_, _-_, _+_, _<_}
