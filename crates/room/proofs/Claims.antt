@@ -1,0 +1,165 @@
+-- The types of the room's functions as the rules take them, the facts about them that `search` needs, and the contracts. A claim record is
+-- seven bytes of plain data, so a place in the room lies seven times its number on; the rules hold at any such type. Assumes nothing.
+use mathlib.Core.Path.{_≡_, refl}
+use mathlib.Core.List.{[], _∷_}
+use Prim.Native.Nat.{ℕ, _<_, _≤_, _+_}
+use lib.ListN.{length, set, getD, replicate}
+use mir.Syntax.{Ty, tyInt, named, erased, w64}
+use mir.Val.{Val}
+use base.Fml.{Lft, Share}
+use denote.Exit.{yes}
+use denote.Slice.{sliceTy}
+use denote.Struct.Declared.{Declared, row, fields}
+use denote.Struct.Laws as L
+use denote.Struct.Struct.{Plains}
+use borrow.Fn.Kind.{PK, RK}
+use borrow.Fn.World.{World}
+use borrow.Kind.Value.{Valued, pVal, rVal}
+use borrow.Kind.Num.{pNum}
+use borrow.Kind.Unit.{rUnit}
+use borrow.Kind.MutSlice.{pMutS}
+use borrow.Rule.Local as Local
+use borrow.Rule.Slice.Mut.{mslice}
+use borrow.Rule.Slice.Relend.{mslice-owed}
+use borrow.Rule.Slice.Shared.{lenV, sliceV}
+use borrow.Rule.Yields.{Yields}
+use borrow.Table.Copies.{cStruct}
+use borrow.Table.Elements.{at-mul}
+use borrow.Table.Reads.{ReadsAs, ReadsAt, ToRoom, ptrVal}
+use borrow.Table.Row.{Sc, sInt, valS, lease}
+use borrow.Table.Rows.{whole}
+use Rattle.alc.proofs.Claim as T
+use Rattle.alc.proofs.Claim.Laws as T′
+use Rattle.alc.proofs.Goal as GT
+use Rattle.alc.proofs.Goal.Laws as GT′
+use Rattle.alc.specs.Shown.{blank}
+use Rattle.room.proofs.Says.{Con}
+use Rattle.room.proofs.Walk.{ev, Data, Elem, mirOf, ref, copied, let-go, ptr-of, len-of, slice-of, len-owed}
+use Rattle.room.specs.Stored.{stored, fetched, goalOf}
+
+-- ---- types
+abbrev pub num : Sc
+num = sInt w64
+
+abbrev pub i64 : Ty
+i64 = tyInt w64
+
+abbrev pub nat : ℕ → Val
+nat = valS num
+
+-- a declared struct of plain data: a type of locals, a parameter by value, a result
+module _ (T : Declared) (l : L.Laws T) (c : L.Copyables (T .parts)) (p : Plains (fields T)) where
+  abbrev valued : Valued
+  valued = record { ty = row T; one = refl; val = L.val T l; tells = L.tells T l; still = L.still T c yes; row = whole (row T); rd = λ x. x; mk = λ x. x }
+
+  abbrev pub data! : Data
+  data! = record { R = row T; one = refl; cp = cStruct T l c }
+
+  abbrev pub byVal : {n : ℕ} → PK n
+  byVal = pVal valued (λ M 𝓤 H A W. record { copies = L.copy T c 𝓤 H A W; lawful = L.lawful T l 𝓤 H A W; makes = L.makes T p 𝓤 H A; in-mem = Local.mem-whole 𝓤 H A W (row T); of-mem = Local.whole-mem 𝓤 H A W (row T) })
+
+  abbrev pub asRes : {n : ℕ} → RK n
+  asRes = rVal valued (λ M 𝓤 H A W. record { copies = L.copy T c 𝓤 H A W; lawful = L.lawful T l 𝓤 H A W; makes = L.makes T p 𝓤 H A; in-mem = Local.mem-whole 𝓤 H A W (row T); of-mem = Local.whole-mem 𝓤 H A W (row T) })
+
+abbrev pub claim : Data
+claim = data! T.the-type T′.the-laws T′.the-copy T′.the-plain
+
+abbrev pub cell : Elem
+cell = record { of = claim; size = 7; sized = λ i o. at-mul o 7 i; d = blank }
+
+abbrev pub claimP : {n : ℕ} → PK n
+claimP = byVal T.the-type T′.the-laws T′.the-copy T′.the-plain
+
+abbrev pub claimR : {n : ℕ} → RK n
+claimR = asRes T.the-type T′.the-laws T′.the-copy T′.the-plain
+
+abbrev pub goal : Data
+goal = data! GT.the-type GT′.the-laws GT′.the-copy GT′.the-plain
+
+abbrev pub goalP : {n : ℕ} → PK n
+goalP = byVal GT.the-type GT′.the-laws GT′.the-copy GT′.the-plain
+
+abbrev pub goalR : {n : ℕ} → RK n
+goalR = asRes GT.the-type GT′.the-laws GT′.the-copy GT′.the-plain
+
+abbrev pub roomP : PK 1
+roomP = pMutS T.the-row 0 tt
+
+-- ---- what `search` needs
+module _ (w : World) where
+  pub claim-copied : Yields (w .𝓤) (w .H) (w .𝓖 .A) (λ ρ. Unit {0}) (mirOf claim) (whole T.the-row) (whole T.the-row) T.the-row (λ x. x) (λ x. x)
+  claim-copied = copied w claim
+
+  pub claim-gone : ToRoom (w .𝓤) (w .H) (w .𝓖 .A) (whole T.the-row) (mirOf claim)
+  claim-gone = let-go w claim
+
+  pub goal-copied : Yields (w .𝓤) (w .H) (w .𝓖 .A) (λ ρ. Unit {0}) (mirOf goal) (whole GT.the-row) (whole GT.the-row) GT.the-row (λ x. x) (λ x. x)
+  goal-copied = copied w goal
+
+  pub goal-gone : ToRoom (w .𝓤) (w .H) (w .𝓖 .A) (whole GT.the-row) (mirOf goal)
+  goal-gone = let-go w goal
+
+  pub room-ptr : ReadsAt (w .𝓤) (w .H) (w .𝓖 .A) (mslice T.the-row (ref T.the-row (named 0)) 0) (ref T.the-row (named 0)) 0 ptrVal
+  room-ptr = ptr-of w T.the-row (named 0) 0
+
+  pub room-len : ReadsAt (w .𝓤) (w .H) (w .𝓖 .A) (mslice T.the-row (ref T.the-row (named 0)) 0) (tyInt w64) 8 lenV
+  room-len = len-of w T.the-row (named 0) 0
+
+  pub room-lent : (κ : Lft) (q : Share) → ReadsAt (w .𝓤) (w .H) (w .𝓖 .A) (mslice-owed T.the-row (ref T.the-row (named 0)) 0 1 (lease κ q)) (tyInt w64) 8 (λ x. lenV (x .0))
+  room-lent κ q = len-owed w T.the-row (named 0) 0 1 (lease κ q)
+
+  pub lent-whole : ReadsAs (w .𝓤) (w .H) (w .𝓖 .A) (mslice T.the-row (ref T.the-row erased) 1) (sliceTy (ref T.the-row erased)) sliceV
+  lent-whole = slice-of w T.the-row erased 1
+
+pub ruleset room = (ev, claim-copied, claim-gone, goal-copied, goal-gone, room-ptr, room-len, room-lent, lent-whole)
+
+-- ---- contracts: a has the arguments, z the result, e the parameters at exit
+abbrev pub put : Con
+put = record {
+  name = "room::put";
+  n = 1;
+  ps = roomP ∷ pNum w64 ∷ claimP ∷ [];
+  r = rUnit;
+  pre = λ κs a. (a .1 .0 < length (a .0 .now)) ∷ [];
+  post = λ κs a z e. (e .0 .now ≡ set (a .0 .now) (a .1 .0) (a .1 .1 .0)) ∷ [];
+}
+
+abbrev pub get : Con
+get = record {
+  name = "room::get";
+  n = 1;
+  ps = roomP ∷ pNum w64 ∷ [];
+  r = claimR;
+  pre = λ κs a. (a .1 .0 < length (a .0 .now)) ∷ [];
+  post = λ κs a z e. ((z ≡ getD (a .0 .now) (a .1 .0) blank) × (e .0 .now ≡ a .0 .now)) ∷ [];
+}
+
+abbrev pub blank-all : Con
+blank-all = record {
+  name = "room::blank_all";
+  n = 1;
+  ps = roomP ∷ [];
+  r = rUnit;
+  pre = λ κs a. [];
+  post = λ κs a z e. (e .0 .now ≡ replicate (length (a .0 .now)) blank) ∷ [];
+}
+
+abbrev pub store : Con
+store = record {
+  name = "room::store";
+  n = 1;
+  ps = roomP ∷ pNum w64 ∷ goalP ∷ [];
+  r = rUnit;
+  pre = λ κs a. ((a .1 .1 .0 .count ≤ 64) × (a .1 .0 + a .1 .1 .0 .count ≤ length (a .0 .now))) ∷ [];
+  post = λ κs a z e. (e .0 .now ≡ stored (a .0 .now) (a .1 .0) (a .1 .1 .0 .claims) (a .1 .1 .0 .count)) ∷ [];
+}
+
+abbrev pub fetch : Con
+fetch = record {
+  name = "room::fetch";
+  n = 1;
+  ps = roomP ∷ pNum w64 ∷ pNum w64 ∷ [];
+  r = goalR;
+  pre = λ κs a. ((a .1 .1 .0 ≤ 64) × (a .1 .0 + a .1 .1 .0 ≤ length (a .0 .now))) ∷ [];
+  post = λ κs a z e. ((z ≡ goalOf (fetched (a .0 .now) (a .1 .0) (a .1 .1 .0)) (a .1 .1 .0)) × (e .0 .now ≡ a .0 .now)) ∷ [];
+}
