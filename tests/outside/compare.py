@@ -81,8 +81,8 @@ def main():
     parser.add_argument("--judge", default="target/bin/judge", help="the judging program")
     parser.add_argument("--seed", type=int, help="a number that fixes what is made; a new one is taken and printed if there is none")
     parser.add_argument("--count", type=int, default=200, help="how many derivations, and how many models (default: %(default)s)")
-    parser.add_argument("--damaged", type=int, default=10, help="for each derivation so many damaged copies, and so many others with a "
-                        "mistake in them (default: %(default)s)")
+    parser.add_argument("--damaged", type=int, default=10, help="for each derivation so many damaged copies, so many others with a "
+                        "mistake in them, and so many worlds for its claims (default: %(default)s)")
     parser.add_argument("--keep", type=pathlib.Path, help="a folder for every dossier made, for a closer look")
     given = parser.parse_args()
     seed = given.seed if given.seed is not None else random.SystemRandom().randrange(10**6)
@@ -123,9 +123,9 @@ def main():
             refusals[verdict.split()[1]] += 1
             return
         claims = text[: text.index("\nproof\n" if verdict == "proved" else "\nmodel\n")]
-        if expected is None and claims in seen:
+        if expected is None and (verdict, claims) in seen:
             return  # the same question again
-        seen.add(claims)
+        seen.add((verdict, claims))
         if verdict == "proved":
             used.update({row[0] for row in rows[rows.index(("proof",)):]} & set(dossiers.STEPS))
         questions.append((kind, name, text, verdict))
@@ -137,10 +137,11 @@ def main():
             made("damaged", f"damaged-{n:04}-{k:02}", dossiers.damaged(rows, rng), None)
             mistake = dossiers.MISTAKES[k % len(dossiers.MISTAKES)]
             made("mistaken", f"mistaken-{n:04}-{k:02}-{mistake}", dossiers.make_mistaken(rng, mistake), None)
+            made("world", f"world-{n:04}-{k:02}", dossiers.other_world(rows, rng), None)
         made("model", f"model-{n:04}", dossiers.make_model(rng), "refuted")
     print(f"{total} dossiers made and judged in {time.monotonic() - started:.1f} s; {sum(refusals.values())} refused")
     print("files with each step: " + ", ".join(f"{word} {used[word]}" for word in dossiers.STEPS))
-    print("damaged and mistaken ones refused, by number: " + ", ".join(f"{k}: {refusals[k]}" for k in sorted(refusals, key=int)))
+    print("refused, by number: " + ", ".join(f"{k}: {refusals[k]}" for k in sorted(refusals, key=int)))
     unused = [word for word in dossiers.STEPS if not used[word]]
     if unused:
         print("note: no derivation used " + ", ".join(unused))
@@ -164,7 +165,8 @@ def main():
                     complain(name, text, f"{name}: the judge says {verdict}, {reasoner} says {answer}")
 
     kinds = {"derivation": "derivations, proved", "damaged": "damaged derivations, proved all the same",
-             "mistaken": "mistaken derivations, proved all the same", "model": "models, refuted"}
+             "mistaken": "mistaken derivations, proved all the same", "model": "models, refuted",
+             "world": "worlds for the claims of a derivation, refuted all the same"}
     print("\n| dossiers | number | " + " | ".join(f"{r} agrees | {r} gives no answer" for r in REASONERS) + " |")
     print("|---|---|" + "---|---|" * len(REASONERS))
     for kind, words in kinds.items():

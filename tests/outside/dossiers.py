@@ -396,17 +396,30 @@ def make_mistaken(rng, mistake):
             return heading(table, left, right, rng) + [("proof",)] + steps
 
 
+def model(world, rng):
+    """The rows that tell a world."""
+    facts = [("name", a, d) for a, d in world.places.items()]
+    facts += [("has",) + fact for fact in sorted(world.atoms)] + [("edge",) + fact for fact in sorted(world.roles)]
+    rng.shuffle(facts)
+    return [("model",), ("size", world.size)] + facts
+
+
 def make_model(rng):
     """The rows of a dossier with a model that refutes its claims."""
     while True:
         made = refuted(rng)
-        if made is None:
-            continue
-        table, left, right, world = made
-        facts = [("name", a, d) for a, d in world.places.items()]
-        facts += [("has",) + fact for fact in sorted(world.atoms)] + [("edge",) + fact for fact in sorted(world.roles)]
-        rng.shuffle(facts)
-        return heading(table, left, right, rng) + [("model",), ("size", world.size)] + facts
+        if made is not None:
+            table, left, right, world = made
+            return heading(table, left, right, rng) + model(world, rng)
+
+
+def other_world(rows, rng):
+    """The table and the claims of a derivation with a random world in place of its steps; no world refutes what is derived."""
+    head = rows[: rows.index(("proof",))]
+    table = Table(rng, 4, 2)
+    table.rows = [row for row in head if row[0] not in ("left", "right")]
+    claims = [row[1:] for row in head if row[0] in ("left", "right")]
+    return head + model(random_world(table, names_of((claims, [])), rng, 5), rng)
 
 
 def damaged(rows, rng):
