@@ -388,7 +388,7 @@ def make_derivation(rng, word, least=3):
 
 
 def make_mistaken(rng, mistake):
-    """The rows of a dossier with a derivation in which this mistake was allowed, most of them for claims that do not hold."""
+    """The rows of a dossier with a derivation in which this mistake was allowed, so that its claims need not hold."""
     while True:
         table, left, right = sequent(rng, likely=False)
         steps = derivation(table, (left, right), rng, most=20, mistake=mistake)
