@@ -81,7 +81,7 @@ fn turn_at(
     let s = made_step(l);
     let i = s.y as usize;
     let e = entry_at(kinds, firsts, seconds, entries, i);
-    goals::turn_of(g, s, e, waiting)
+    turns::turn_of(g, s, e, waiting)
 }
 
 // Judges the lines from `start` on as steps, with so many lines of the file before them. The goals that are open stand in an array: the
