@@ -118,10 +118,10 @@ fn ended(
     requires { ⌜ ((a : ℕ) → All (λ d. d < size) (seatsOf (now places) a)) ⌝ }
     ensures { λ r. ⌜ ((fs : List Fact) (cs : List Sided) → Tells size fs (now (places .entry)) (now (atoms .entry)) (now (edges .entry)) → Shows claims cs → answered r ≡ modelled n (inFacts (tableOf (now (kinds .entry)) (now (firsts .entry)) (now (seconds .entry)) entries) cs size fs)) ⌝ }
 {
-    if !models::all_placed(claims, places) {
+    if !truth::all_placed(claims, places) {
         return Answer::Refused(12, n + 1);
     }
-    let w = models::countered(
+    let w = truth::countered(
         kinds,
         firsts,
         seconds,
