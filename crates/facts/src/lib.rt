@@ -65,7 +65,7 @@ fn read_facts(
     let mut at = start;
     let mut n = before;
     loop {
-        match lines::read(text, at, 4) {
+        match reading::read(text, at, 4) {
             Next::Found(l, next) => {
                 if !heading::ranged(l, entries, size) {
                     return Heard {
@@ -198,7 +198,7 @@ pub fn judge_model(
     requires { ⌜ Asked (now text) start before (now kinds) (now firsts) (now seconds) entries claims ⌝ }
     ensures { λ r. ⌜ ((cs : List Sided) → Shows claims cs → answered r ≡ judge before (atStart (tableOf (now (kinds .entry)) (now (firsts .entry)) (now (seconds .entry)) entries) cs) (linesOf (drop start (now (text .entry))))) ⌝ }
 {
-    match lines::read(text, start, 3) {
+    match reading::read(text, start, 3) {
         Next::Found(l, next) => {
             if !heading::ranged(l, entries, 0) {
                 return Answer::Refused(3, before + 1);

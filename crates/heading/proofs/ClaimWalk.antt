@@ -11,7 +11,7 @@ use borrow.Author.Tests.{ltb-true, leb-true}
 use Rattle.lines.specs.Text.{words, rowOf, wordCount, stands as allowedAt, linesOf}
 use Rattle.lines.specs.declared.Line.{Line}
 use Rattle.lines.proofs.Told.{Told, told}
-use Rattle.lines.proofs.Loop.{Line-found, Line-bad}
+use Rattle.reading.proofs.Loop.{Line-found, Line-bad}
 use Rattle.alc.specs.Lists.{All, every}
 use Rattle.alc.specs.Rows.{refusal}
 use Rattle.alc.specs.Ranges.{inRange}

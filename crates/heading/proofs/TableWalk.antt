@@ -15,7 +15,7 @@ use Rattle.lines.specs.Text.{words, rowOf, wordCount, stands as allowedAt, line
 use Rattle.lines.specs.declared.Line.{Line}
 use Rattle.lines.specs.declared.Item.{Item}
 use Rattle.lines.proofs.Told.{Told, told}
-use Rattle.lines.proofs.Loop.{Line-found, Line-bad}
+use Rattle.reading.proofs.Loop.{Line-found, Line-bad}
 use Rattle.alc.specs.Lists.{every}
 use Rattle.alc.specs.Rows.{refusal}
 use Rattle.alc.specs.Ranges.{inRange}

@@ -170,7 +170,7 @@ pub fn read_table(
     let mut at = 0;
     let mut n: usize = 0;
     loop {
-        match lines::read(text, at, 0) {
+        match reading::read(text, at, 0) {
             Next::Found(l, next) => {
                 if l.word >= 8 {
                     return Listed {
@@ -273,7 +273,7 @@ pub fn read_claims(text: &[u8], start: usize, entries: usize) -> Heading
     let mut n = entries;
     let mut claims = goals::empty();
     loop {
-        match lines::read(text, at, 1) {
+        match reading::read(text, at, 1) {
             Next::Found(l, next) => {
                 if l.word >= 11 {
                     return Heading {

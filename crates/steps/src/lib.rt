@@ -107,7 +107,7 @@ pub fn judge_steps(
     let mut n = before;
     let mut at = start;
     loop {
-        match lines::read(text, at, 2) {
+        match reading::read(text, at, 2) {
             Next::Found(l, next) => {
                 if steps >= 1024 {
                     return Answer::Refused(5, n + 1);

@@ -8,7 +8,7 @@ use lib.ListN.{length, drop}
 use denote.Ref.{now}
 use borrow.Author.Needs.{needs}
 use Rattle.lines.specs.Text.{linesOf}
-use Rattle.lines.proofs.Loop.{Line-found, when-found, when-bad, when-end}
+use Rattle.reading.proofs.Loop.{Line-found, when-found, when-bad, when-end}
 use Rattle.lines.proofs.Told.{Told, told}
 use Rattle.alc.specs.Table.{Table}
 use Rattle.alc.specs.Verdict.{refused, judge}

@@ -7,7 +7,7 @@ use mathlib.Core.List.{List, []}
 use lib.ListN.{length, drop}
 use denote.Ref.{now}
 use borrow.Author.Needs.{needs}
-use Rattle.lines.proofs.Loop.{Line-found, when-found, when-bad, when-end}
+use Rattle.reading.proofs.Loop.{Line-found, when-found, when-bad, when-end}
 use Rattle.lines.specs.Text.{linesOf}
 use Rattle.alc.specs.Rows.{refusal}
 use Rattle.alc.specs.Verdict.{refused, begin, judge}

@@ -8,7 +8,7 @@ use lib.ListN.{length, drop, getD}
 use denote.Ref.{now}
 use borrow.Author.Needs.{needs}
 use Rattle.lines.specs.Text.{linesOf}
-use Rattle.lines.proofs.Loop.{Line-found, when-found, when-bad, when-end}
+use Rattle.reading.proofs.Loop.{Line-found, when-found, when-bad, when-end}
 use Rattle.steps.proofs.StepWalk.{Walk, noGoal, walk-begin, walk-once, walk-twice, word, stops-5, stops-9, stops-turn, stops-bad, stops-open, stops-proved}
 use Rattle.steps.proofs.judge_steps.Statement.{statement}
 use Rattle.steps.proofs.judge_steps.Tie as tie

@@ -1,8 +1,8 @@
--- `lines::is_digit` meets its contract, by its two tests. Assumes nothing.
+-- `numbers::is_digit` meets its contract, by its two tests. Assumes nothing.
 use borrow.Author.Tests.{le-leb, lt-leb}
 use Rattle.lines.specs.Text.{digit}
-use Rattle.lines.proofs.is_digit.Statement.{statement}
-use Rattle.lines.proofs.is_digit.Tie as tie
+use Rattle.numbers.proofs.is_digit.Statement.{statement}
+use Rattle.numbers.proofs.is_digit.Tie as tie
 
 returns : tie.Need-returns
 unfolding digit

@@ -1,4 +1,4 @@
--- `lines::field_end` meets its contract. The invariant: the field from `at` on ends where the field from i on ends.
+-- `reading::field_end` meets its contract. The invariant: the field from `at` on ends where the field from i on ends.
 -- The measure is what is left of the text. Assumes nothing.
 use Prim.Native.Nat.{ℕ, suc, _+_, _-_, _<_}
 use mathlib.Core.List.{List}
@@ -8,10 +8,10 @@ use native.Mathlib.Omega.{arith}
 use lib.ListN.{length, getD, drop}
 use denote.Ref.{now}
 use borrow.Author.Needs.{needs}
 use Rattle.lines.specs.Walk.{parting, fieldOf}
 use Rattle.lines.proofs.Laws.{here, past, field-none, field-here, field-on}
-use Rattle.lines.proofs.field_end.Statement.{statement}
-use Rattle.lines.proofs.field_end.Tie as tie
+use Rattle.reading.proofs.field_end.Statement.{statement}
+use Rattle.reading.proofs.field_end.Tie as tie
 
 abbrev left : List ℕ → ℕ → ℕ
 left text i = length (fieldOf (drop i text))

@@ -1,11 +1,11 @@
--- `lines::holds` meets its contract: past the text no byte stands. Assumes nothing.
+-- `numbers::holds` meets its contract: past the text no byte stands. Assumes nothing.
 use mathlib.Core.Path.{sym, ap}
 use denote.Ref.{now}
 use Rattle.lines.specs.Walk.{opens}
 use Rattle.lines.proofs.Laws.{here, past}
 use borrow.Author.Needs.{needs}
-use Rattle.lines.proofs.holds.Statement.{statement}
-use Rattle.lines.proofs.holds.Tie as tie
+use Rattle.numbers.proofs.holds.Statement.{statement}
+use Rattle.numbers.proofs.holds.Tie as tie
 
 pub holds-spec : {M : Type 1} → statement M
 holds-spec =

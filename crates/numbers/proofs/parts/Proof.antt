@@ -1,8 +1,8 @@
--- `lines::parts` meets its contract, by its two tests. Assumes nothing.
+-- `numbers::parts` meets its contract, by its two tests. Assumes nothing.
 use borrow.Author.Tests.{eq-eqb, ne-eqb}
 use Rattle.lines.specs.Walk.{parting}
-use Rattle.lines.proofs.parts.Statement.{statement}
-use Rattle.lines.proofs.parts.Tie as tie
+use Rattle.numbers.proofs.parts.Statement.{statement}
+use Rattle.numbers.proofs.parts.Tie as tie
 
 returns : tie.Need-returns
 unfolding parting

@@ -8,11 +8,12 @@ use lib.Dec.{eqb, leb}
 use native.Mathlib.Nat.{lt-of-lt-of-le, add-zero}
 use native.Mathlib.Omega.{arith}
 use borrow.Author.Tests.{leb-true, eqb-true, eqb-false, eq-eqb, ne-eqb, le-leb, lt-leb}
 use Rattle.lines.specs.Text.{every, goodByte, digit, valueFrom, value, leads, isNumber}
-use Rattle.lines.specs.Walk.{parting, fieldOf, numBy, numberIn}
-use Rattle.lines.specs.declared.Num.{Num}
-use Rattle.lines.specs.declared.Num.the-variants.{Is, Not}
+use Rattle.lines.specs.Walk.{parting, fieldOf}
+use Rattle.numbers.specs.Numbers.{numBy, numberIn}
+use Rattle.numbers.specs.declared.Num.{Num}
+use Rattle.numbers.specs.declared.Num.the-variants.{Is, Not}
 use Rattle.lines.proofs.Laws.{and-left, and-right, every-more, field-none, field-here, field-on}
 
 -- DIGITS
 pub digit-low : (d : ℕ) → digit d ≡ true → 48 ≤ d

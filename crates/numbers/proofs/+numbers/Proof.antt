@@ -1,4 +1,4 @@
--- `lines::numbers` meets its contract: no number means byte 10 at once; one more means byte 9, a number, and the same again where it ends.
+-- `numbers::numbers` meets its contract: no number means byte 10 at once; one more means byte 9, a number, and the same again where it ends.
 -- It calls itself for one number less, so the measure is `count`. Assumes nothing.
 use Prim.Native.Nat.{ℕ, _<_}
 use mathlib.Core.Path.{sym, ap, _∙_}
@@ -8,15 +8,15 @@ use borrow.Fn.Kinds.{In}
 use borrow.Fn.PlainCycle.{Measures, is, falls, and}
 use borrow.Author.Needs.{needs}
 use borrow.Author.Tests.{not-true, not-false}
 use Rattle.lines.proofs.Laws.{opens-within}
-use Rattle.lines.proofs.Fields.{led, last-ended, last-further, one-none, one-wrong, one-number}
-use Rattle.lines.proofs.numbers.Reads as numbers
-use Rattle.lines.proofs.numbers.Kinds as numbers-kinds
-use Rattle.lines.proofs.+numbers.Lts-numbers as numbers-lts
-use Rattle.lines.proofs.holds.Reads as holds-reads
-use Rattle.lines.proofs.number.Reads as number-reads
-use Rattle.lines.proofs.+numbers.{statement}
-use Rattle.lines.proofs.+numbers.Tie.{close}
+use Rattle.numbers.proofs.Fields.{led, last-ended, last-further, one-none, one-wrong, one-number}
+use Rattle.numbers.proofs.numbers.Reads as numbers
+use Rattle.numbers.proofs.numbers.Kinds as numbers-kinds
+use Rattle.numbers.proofs.+numbers.Lts-numbers as numbers-lts
+use Rattle.numbers.proofs.holds.Reads as holds-reads
+use Rattle.numbers.proofs.number.Reads as number-reads
+use Rattle.numbers.proofs.+numbers.{statement}
+use Rattle.numbers.proofs.+numbers.Tie.{close}
 
 abbrev μ-numbers : Measures 1 numbers-kinds.ps ℕ
 μ-numbers κs a = a .1 .1 .0
