@@ -15,7 +15,7 @@ unfolding words
 returns c =
     let s = c .before .before .before .before .before in
     let w = s .args .w in
-    let n = c .before .before .before .length-of in
+    let n = c .before .before .length-of in
     let e : w * 8 + n .result - w * 8 ≡ length (bytes (rowOf w .word)) = omega (arith, n .ensures .0) in
     c .same .ensures ∙ ap (λ x. same (now (s .args .f)) x) (ap (λ m. take m (drop (w * 8) (spelt words))) e ∙ spelt-at w (s .pre))
 
@@ -23,6 +23,7 @@ pub is-word-spec : {M : Type 1} → statement M
 is-word-spec =
     tie.close
     (tie.spec
+    (λ c. search needs)
     (λ c. search needs)
     (λ c κs. search needs)
     (λ c. search needs)
