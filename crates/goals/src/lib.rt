@@ -48,6 +48,9 @@ pub struct Plan {
     pub second: Claim,
 }
 
+// The kind of a plan that asks no kind of entry.
+pub const ANY: u8 = 8;
+
 // What a step does to the current goal: the refusal's number, or 0 and how many premises it leaves. The one that waits, or the only one,
 // is `under`; the first of two is `over`.
 pub struct Turn {

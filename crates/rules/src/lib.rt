@@ -3,6 +3,7 @@ use alc::Claim;
 use alc::Concept;
 use alc::Name;
 use alc::Role;
+use goals::ANY;
 use goals::Entry;
 use goals::Plan;
 use goals::Step;
@@ -33,8 +34,6 @@ const OR: u8 = 5;
 const SOME: u8 = 6;
 
 const ALL: u8 = 7;
-
-const ANY: u8 = 8;
 
 // The goal closes by the claims needed.
 fn closes(kind: u8, needs: u8, need: Claim, also: Claim) -> Plan

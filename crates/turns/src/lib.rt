@@ -1,5 +1,6 @@
 // One step at a goal: the first of its rows that it does not pass, or the premises that it leaves.
 use alc::Goal;
+use goals::ANY;
 use goals::Entry;
 use goals::Plan;
 use goals::Step;
@@ -17,9 +18,6 @@ ghost use Rattle.alc.specs.Claims.{Sided};
 ghost use Rattle.alc.specs.Table.{Table, entry, entryOf};
 ghost use Rattle.alc.specs.Rules.{plan};
 ghost use Rattle.goals.specs.Records.{sameRecord, hasName, keeping, stepOf, asks, upTo, newsBy, added, recordRows, Turns};
-
-// The kind of entry that a plan asks which asks none.
-const ANY: u8 = 8;
 
 // Whether the entry is of the kind that the plan asks.
 fn asked(p: Plan, kind: u8) -> bool
