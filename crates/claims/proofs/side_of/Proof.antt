@@ -1,7 +1,7 @@
--- `heading::side_of` meets its contract. Assumes nothing.
+-- `claims::side_of` meets its contract. Assumes nothing.
 use borrow.Author.Tests.{eq-eqb, ne-eqb}
-use Rattle.heading.proofs.side_of.Statement.{statement}
-use Rattle.heading.proofs.side_of.Tie as tie
+use Rattle.claims.proofs.side_of.Statement.{statement}
+use Rattle.claims.proofs.side_of.Tie as tie
 
 returns : tie.Need-returns
 returns c = rw (eq-eqb _ _ (c .if1 .taken))

@@ -1,4 +1,4 @@
--- `heading::repeated` meets its contract. The invariant: the entry stands in the table exactly if it stands in what is left from i on. The
+-- `tables::repeated` meets its contract. The invariant: the entry stands in the table exactly if it stands in what is left from i on. The
 -- measure is what is left of the table. Assumes nothing.
 use Prim.Native.Nat.{_≤_, _-_}
 use mathlib.Core.Path.{_≡_, refl, sym, _∙_}
@@ -9,9 +9,9 @@ use borrow.Author.Needs.{needs}
 use Rattle.alc.specs.Lists.{any}
 use Rattle.alc.specs.Table.{entryOf, sameEntry}
 use Rattle.alc.specs.Shown.{kindAt, tableOf}
 use Rattle.heading.proofs.TableLaws.{entry-same, stands-here, stands-next, stands-end}
-use Rattle.heading.proofs.repeated.Statement.{statement}
-use Rattle.heading.proofs.repeated.Tie as tie
+use Rattle.tables.proofs.repeated.Statement.{statement}
+use Rattle.tables.proofs.repeated.Tie as tie
 
 abbrev Inv-loop : tie.InvT-loop
 Inv-loop kinds firsts seconds n e i₀ i =

@@ -1,4 +1,4 @@
--- `heading::read_table` meets its contract. The invariant: the lines read are stored, and the judge is where the walk is. The measure is
+-- `tables::read_table` meets its contract. The invariant: the lines read are stored, and the judge is where the walk is. The measure is
 -- what is left of the text. Assumes nothing.
 use Prim.Native.Nat.{ℕ, suc, _-_, _<_}
 use mathlib.Core.Path.{_≡_, refl, sym, _∙_}
@@ -12,10 +12,10 @@ use Rattle.lines.specs.Text.{linesOf}
 use Rattle.alc.specs.Rows.{refusal}
 use Rattle.alc.specs.Verdict.{refused, begin, judge}
 use Rattle.alc.specs.Shown.{tableOf}
 use Rattle.heading.specs.Parts.{entryRows, inClaims, TableRead}
-use Rattle.heading.proofs.TableWalk.{Walk, walk-begin, walk-stored, stops-bad, stops-end, stops-here, stops-refused, room}
-use Rattle.heading.proofs.read_table.Statement.{statement}
-use Rattle.heading.proofs.read_table.Tie as tie
+use Rattle.tables.proofs.TableWalk.{Walk, walk-begin, walk-stored, stops-bad, stops-end, stops-here, stops-refused, room}
+use Rattle.tables.proofs.read_table.Statement.{statement}
+use Rattle.tables.proofs.read_table.Tie as tie
 
 abbrev Inv-loop : tie.InvT-loop
 Inv-loop text kinds₀ firsts₀ seconds₀ at₀ n₀ kinds firsts seconds at n =

@@ -1,9 +1,9 @@
--- `heading::made_claim` meets its contract, a kind of claim at a time. Assumes nothing.
+-- `claims::made_claim` meets its contract, a kind of claim at a time. Assumes nothing.
 use native.Mathlib.Omega.{arith}
 use borrow.Author.Needs.{needs}
-use Rattle.heading.proofs.ClaimLaws.{made-as, claim-is, claim-sub, claim-link}
-use Rattle.heading.proofs.made_claim.Statement.{statement}
-use Rattle.heading.proofs.made_claim.Tie as tie
+use Rattle.claims.proofs.ClaimLaws.{made-as, claim-is, claim-sub, claim-link}
+use Rattle.claims.proofs.made_claim.Statement.{statement}
+use Rattle.claims.proofs.made_claim.Tie as tie
 
 side-of-requires : tie.Need-side-of-requires
 side-of-requires c κs = search needs

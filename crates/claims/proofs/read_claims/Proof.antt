@@ -1,4 +1,4 @@
--- `heading::read_claims` meets its contract. The invariant: the goal shows the claims read so far, and the judge is where the walk is,
+-- `claims::read_claims` meets its contract. The invariant: the goal shows the claims read so far, and the judge is where the walk is,
 -- whatever the table of so many lines. The measure is what is left of the text. Assumes nothing.
 use Prim.Native.Nat.{ℕ, suc, _-_, _≤_}
 use mathlib.Core.List.{List, []}
@@ -13,10 +13,10 @@ use Rattle.lines.proofs.Told.{Told, told}
 use Rattle.alc.specs.Table.{Table}
 use Rattle.alc.specs.Verdict.{refused, judge}
 use Rattle.goals.proofs.RecordLaws.{with-more, with-count}
 use Rattle.heading.specs.Parts.{inClaims, ClaimsRead}
-use Rattle.heading.proofs.ClaimWalk.{Walk, walk-begin, walk-more, stops-bad, stops-end, stops-refused, turns-proof, turns-model, room, stands-among}
-use Rattle.heading.proofs.read_claims.Statement.{statement}
-use Rattle.heading.proofs.read_claims.Tie as tie
+use Rattle.claims.proofs.ClaimWalk.{Walk, walk-begin, walk-more, stops-bad, stops-end, stops-refused, turns-proof, turns-model, room, stands-among}
+use Rattle.claims.proofs.read_claims.Statement.{statement}
+use Rattle.claims.proofs.read_claims.Tie as tie
 
 abbrev Inv-loop : tie.InvT-loop
 Inv-loop text start entries at₀ n₀ claims₀ at n claims =

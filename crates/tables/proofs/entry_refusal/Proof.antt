@@ -1,4 +1,4 @@
--- `heading::entry_refusal` meets its contract: the tests are the rows', in their order. Assumes nothing.
+-- `tables::entry_refusal` meets its contract: the tests are the rows', in their order. Assumes nothing.
 use Prim.Native.Nat.{ℕ, _%_}
 use native.Mathlib.Omega.{arith}
 use mathlib.Core.Bool.{true}
@@ -14,11 +14,11 @@ use Rattle.alc.specs.Table.{entryOf, stands}
 use Rattle.alc.specs.Dossier.{saying}
 use Rattle.alc.specs.Shown.{kindAt, tableOf}
 use Rattle.alc.proofs.ShownLaws.{table-length}
 use Rattle.heading.specs.Fields.{saidFields}
 use Rattle.heading.specs.Parts.{entryIn}
 use Rattle.heading.proofs.TableLaws.{entry-5, entry-3, entry-4, entry-0}
-use Rattle.heading.proofs.entry_refusal.Statement.{statement}
-use Rattle.heading.proofs.entry_refusal.Tie as tie
+use Rattle.tables.proofs.entry_refusal.Statement.{statement}
+use Rattle.tables.proofs.entry_refusal.Tie as tie
 
 -- the table, of n lines
 abbrev T : tie.Start → Rattle.alc.specs.Table.Table

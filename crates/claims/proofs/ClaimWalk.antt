@@ -26,11 +26,11 @@ use Rattle.alc.specs.declared.Claim.{Claim as Record}
 use Rattle.alc.specs.Verdict.{refused, rows, after, ending, judge}
 use Rattle.goals.proofs.RecordLaws.{and-left, and-right, below-at}
 use Rattle.goals.proofs.Steps.{map-append}
 use Rattle.heading.specs.Fields.{saidFields}
 use Rattle.heading.specs.Parts.{sidedIn, claimRows, inClaims, inSteps, atStart}
 use Rattle.heading.proofs.Small.{small}
 use Rattle.heading.proofs.Judging.{judge-end, judge-bad, judge-next, judge-refused}
-use Rattle.heading.proofs.ClaimLaws.{claim-said, rows-claim}
+use Rattle.claims.proofs.ClaimLaws.{claim-said, rows-claim}
 
 -- the words that stand in the claims' place: the claims, `proof` and `model`: a test of all words
 among : ℕ → Bool

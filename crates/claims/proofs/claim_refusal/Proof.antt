@@ -1,10 +1,10 @@
--- `heading::claim_refusal` meets its contract: the tests are the rows', in their order. Assumes nothing.
+-- `claims::claim_refusal` meets its contract: the tests are the rows', in their order. Assumes nothing.
 use mathlib.Core.Path.{sym, _∙_}
 use borrow.Author.Needs.{needs}
 use borrow.Author.Tests.{lt-ltb, le-ltb, not-true, not-false}
-use Rattle.heading.proofs.ClaimLaws.{claim-5, claim-3, claim-0}
-use Rattle.heading.proofs.claim_refusal.Statement.{statement}
-use Rattle.heading.proofs.claim_refusal.Tie as tie
+use Rattle.claims.proofs.ClaimLaws.{claim-5, claim-3, claim-0}
+use Rattle.claims.proofs.claim_refusal.Statement.{statement}
+use Rattle.claims.proofs.claim_refusal.Tie as tie
 
 returns : tie.Need-returns
 returns c = let a = c .before .args in claim-5 (a .entries) (a .claims) (a .l) (le-ltb (a .claims) 64 (c .if1 .taken))

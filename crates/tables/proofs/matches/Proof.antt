@@ -1,8 +1,8 @@
--- `heading::matches` meets its contract: three tests, one after the other. Assumes nothing.
+-- `tables::matches` meets its contract: three tests, one after the other. Assumes nothing.
 use mathlib.Core.Path.{sym}
 use borrow.Author.Tests.{eq-eqb, ne-eqb}
-use Rattle.heading.proofs.matches.Statement.{statement}
-use Rattle.heading.proofs.matches.Tie as tie
+use Rattle.tables.proofs.matches.Statement.{statement}
+use Rattle.tables.proofs.matches.Tie as tie
 
 returns : tie.Need-returns
 returns c = sym (rw (ne-eqb _ _ (c .if1 .taken)))
