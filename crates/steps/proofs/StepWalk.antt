@@ -14,7 +14,7 @@ use borrow.Author.Tests.{lt-ltb, le-ltb, eq-eqb, ne-eqb}
 use Rattle.lines.specs.Text.{linesOf}
 use Rattle.lines.specs.declared.Line.{Line}
 use Rattle.lines.proofs.Told.{Told, told}
-use Rattle.lines.proofs.Loop.{Line-found, Line-bad}
+use Rattle.reading.proofs.Loop.{Line-found, Line-bad}
 use Rattle.alc.specs.Lists.{isEmpty}
 use Rattle.alc.specs.Rows.{refusal}
 use Rattle.alc.specs.Table.{Table}

@@ -75,7 +75,7 @@ fn turn_at(
     let s = made_step(l);
     let i = s.y as usize;
     let e = entry_at(kinds, firsts, seconds, entries, i);
-    goals::turn_of(g, s, e, waiting)
+    turns::turn_of(g, s, e, waiting)
 }
 
 // Where a derivation stands: the current goal, how many claims each goal that waits has, and how far the text is read.
@@ -226,7 +226,7 @@ pub fn act_at(
     ensures { λ r. ⌜ Acted (now (text .entry)) (now (kinds .entry)) (now (firsts .entry)) (now (seconds .entry)) entries s r ⌝ }
 {
     let line = s.lines + 1;
-    match lines::read(text, s.at, 2) {
+    match reading::read(text, s.at, 2) {
         Next::Found(l, next) => {
             if s.steps >= 1024 {
                 return stopped(s, 5, line);

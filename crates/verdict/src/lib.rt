@@ -71,11 +71,11 @@ fn opened(text: &[u8], records: usize) -> Opening
     let mut kinds = [0u8; 256];
     let mut firsts = [0u8; 256];
     let mut seconds = [0u8; 256];
-    let t = heading::read_table(text, &mut kinds, &mut firsts, &mut seconds);
+    let t = tables::read_table(text, &mut kinds, &mut firsts, &mut seconds);
     if t.number != 0 {
         return decided(Answer::Refused(t.number, t.count + 1));
     }
-    let h = heading::read_claims(text, t.at, t.count);
+    let h = claims::read_claims(text, t.at, t.count);
     if h.number != 0 {
         return decided(Answer::Refused(h.number, h.lines + 1));
     }

@@ -7,7 +7,7 @@ use lib.ListN.{length, drop}
 use denote.Ref.{now}
 use borrow.Author.Needs.{needs}
 use Rattle.lines.specs.Text.{linesOf}
-use Rattle.lines.proofs.Loop.{Line-found, when-found, when-bad, when-end}
+use Rattle.reading.proofs.Loop.{Line-found, when-found, when-bad, when-end}
 use Rattle.alc.specs.declared.Goal.{Goal as Records}
 use Rattle.steps.specs.Acting.{Acted, Ready, restingOf, tookOf, closedOf, partedOf}
 use Rattle.steps.specs.declared.State.{State}
