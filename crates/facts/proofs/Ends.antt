@@ -16,7 +16,7 @@ use denote.Struct.Declared.{row}
 use Rattle.lines.specs.Text.{linesOf}
 use Rattle.lines.specs.declared.Line.{Line}
 use Rattle.lines.proofs.Told.{Told}
-use Rattle.lines.proofs.Loop.{Line-found, Line-bad}
+use Rattle.reading.proofs.Loop.{Line-found, Line-bad}
 use Rattle.alc.specs.Lists.{All, every, firstAt}
 use Rattle.alc.specs.Ranges as Ranges
 use Rattle.alc.specs.Ranges.{inRange}

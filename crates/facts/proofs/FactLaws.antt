@@ -11,7 +11,7 @@ use borrow.Author.Tests.{ne-eqb}
 use Rattle.lines.specs.Text.{words, rowOf, wordCount, stands as allowedAt, linesOf}
 use Rattle.lines.specs.declared.Line.{Line}
 use Rattle.lines.proofs.Told.{Told, told}
-use Rattle.lines.proofs.Loop.{Line-found}
+use Rattle.reading.proofs.Loop.{Line-found}
 use Rattle.lines.proofs.Words.{spans, within-low, within-high}
 use Rattle.alc.specs.Lists.{All, every}
 use Rattle.alc.specs.Ranges.{inRange}

@@ -9,7 +9,7 @@ use lib.ListN.{length, drop}
 use Rattle.lines.specs.Text.{linesOf}
 use Rattle.lines.specs.declared.Line.{Line}
 use Rattle.lines.proofs.Told.{Told}
-use Rattle.lines.proofs.Loop.{Line-found, Line-bad}
+use Rattle.reading.proofs.Loop.{Line-found, Line-bad}
 use Rattle.alc.specs.Lists.{All, every}
 use Rattle.alc.specs.Ranges.{inRange}
 use Rattle.alc.specs.Model.{Fact, factFields}

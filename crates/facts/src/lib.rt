@@ -65,7 +65,7 @@ fn read_facts(
     let mut at = start;
     let mut n = before;
     loop {
-        match lines::read(text, at, 4) {
+        match reading::read(text, at, 4) {
             Next::Found(l, next) => {
                 if !heading::ranged(l, entries, size) {
                     return Heard {
@@ -118,10 +118,10 @@ fn ended(
     requires { ⌜ ((a : ℕ) → All (λ d. d < size) (seatsOf (now places) a)) ⌝ }
     ensures { λ r. ⌜ ((fs : List Fact) (cs : List Sided) → Tells size fs (now (places .entry)) (now (atoms .entry)) (now (edges .entry)) → Shows claims cs → answered r ≡ modelled n (inFacts (tableOf (now (kinds .entry)) (now (firsts .entry)) (now (seconds .entry)) entries) cs size fs)) ⌝ }
 {
-    if !models::all_placed(claims, places) {
+    if !truth::all_placed(claims, places) {
         return Answer::Refused(12, n + 1);
     }
-    let w = models::countered(
+    let w = truth::countered(
         kinds,
         firsts,
         seconds,
@@ -198,7 +198,7 @@ pub fn judge_model(
     requires { ⌜ Asked (now text) start before (now kinds) (now firsts) (now seconds) entries claims ⌝ }
     ensures { λ r. ⌜ ((cs : List Sided) → Shows claims cs → answered r ≡ judge before (atStart (tableOf (now (kinds .entry)) (now (firsts .entry)) (now (seconds .entry)) entries) cs) (linesOf (drop start (now (text .entry))))) ⌝ }
 {
-    match lines::read(text, start, 3) {
+    match reading::read(text, start, 3) {
         Next::Found(l, next) => {
             if !heading::ranged(l, entries, 0) {
                 return Answer::Refused(3, before + 1);

@@ -8,7 +8,7 @@ use Rattle.lines.specs.Text.{linesOf, fit}
 use Rattle.lines.specs.declared.Line.{Line}
 use Rattle.lines.specs.declared.Item.{Item}
 use Rattle.lines.specs.declared.Item.the-variants.{Says, Wrong}
-use Rattle.lines.proofs.Loop.{Line-found, Line-bad}
+use Rattle.reading.proofs.Loop.{Line-found, Line-bad}
 use Rattle.alc.specs.Rows.{refusal}
 use Rattle.alc.specs.Dossier.{Said, saying, saidBy, saidAt}
 use Rattle.alc.specs.Verdict.{Verdict, refused, State, place, rows, after, ending, judge}

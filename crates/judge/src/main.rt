@@ -10,7 +10,7 @@ fn main() {
             return;
         }
     }
-    report::print(verdict::judge(&text[..n]));
+    report::print(verdict::judge_here(&text[..n]));
 }
 
 // Whether the input has come to its end. Where a read failed the next one fails too, or goes on behind a gap.

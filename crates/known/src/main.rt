@@ -73,7 +73,7 @@ fn main() {
 fn show(name: &[u8], text: &[u8]) {
     io::write_all(1, name);
     io::write_all(1, b"\t");
-    report::print(verdict::judge(text));
+    report::print(verdict::judge_here(text));
 }
 
 // So many empty lines: a text of that many bytes is read, and its first line refused, unless it is too long.

@@ -9,6 +9,7 @@ use mathlib.Core.Bool.{Bool, true, false, not, _&&_, _||_, false≢true}
 use mathlib.Core.Logic.{_⊎_, inl, inr}
 use mathlib.Core.Path.{_≡_, refl, sym, ap, _∙_, fun-ext}
 use lib.Dec.{eqb, ltb}
+use lib.ListN.{getD, replicate}
 use lib.Pow.{pow-pos, pow-mono, pow-lt, pow-add, shl-exact, shl-shr, high, ones-split, ones-lt}
 use lib.Bits.{bitAnd, bitOr, bitXor, and-shr, or-shr, xor-shr, and-mod, or-mod, xor-mod, and-lt}
 use borrow.Author.Tests.{ltb-true, ltb-false, lt-ltb, le-ltb, eq-eqb, ne-eqb, eqb-false}
@@ -62,6 +63,12 @@ minus false b = refl
 
 pub bit-minus : (a b d : ℕ) → bit (bitAnd a (bitXor a b)) d ≡ (bit a d && not (bit b d))
 bit-minus a b d = bit-and a (bitXor a b) d ∙ ap (λ (t : Bool). bit a d && t) (bit-xor a b d) ∙ minus (bit a d) (bit b d)
+
+-- in an array of zeros each set is empty
+pub zeros : (n k : ℕ) → _≡_ {A = ℕ} (getD (replicate n 0) k 0) 0
+zeros zero k = refl
+zeros (suc n) zero = refl
+zeros (suc n) (suc k) = zeros n k
 
 pub bit-zero : (d : ℕ) → bit 0 d ≡ false
 unfolding bit

@@ -19,8 +19,7 @@ use Rattle.models.specs.Bit.{bit}
 use Rattle.models.specs.Shown.{atomIn, edgeIn, seats, seatsOf, interpShown, allSeated, withAtom, withEdge, PlaceSet, AtomSet, EdgeSet, Tabled, Sized, Claimed, Ready}
 use Rattle.models.specs.Told.{Tells}
 use Rattle.models.proofs.Bools.{and-off, and-true, or-none}
-use Rattle.models.proofs.BitLaws.{bit-zero}
-use Rattle.models.proofs.Filling.{zeros}
+use Rattle.models.proofs.BitLaws.{zeros, bit-zero}
 
 -- two facts are equal just if they are of one word and their numbers are equal
 decide-is : {P : Type 0} (d : Dec P) (b : Bool) → (P → b ≡ true) → (b ≡ true → P) → decide d ≡ b

@@ -1,7 +1,4 @@
--- `Bit`: a set of elements as a number. `Extent`: a table line's elements from those of its parts. `Shown`: what the lent arrays mean.
--- `Truth`: a claim's truth, read off the sets.
+-- `Bit`: a set of elements as a number. `Shown`: what the lent arrays mean. `Told`: what the lines told so far say.
 pub mod Bit
-pub mod Extent
 pub mod Shown
-pub mod Truth
 pub mod Told

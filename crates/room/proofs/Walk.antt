@@ -12,7 +12,9 @@
 --     peeks            `d = *q`, where q points into a `&[T]`
 --     shares, unshares     a `&mut [T]` is lent as a `&[T]` for a call; it is as it was
 --     repeats          `d = [y; n]`, of a struct: d is a full local array
+--     copies-all       `d = y`, of a full local array
 --     lends-all, backs-all     a full local array is lent whole as a `&mut [T]`, for a call; it comes back
+--     shares-all, unshares-all     it is lent whole as a `&[T]`; it is as it was
 --     matches, ends    `match` on an enum that is in a local; code after which nothing is reached
 --     known!           in an arm: the local is at that variant.        takes      a pattern binds a struct (a number is bound by `sets`)
 --     calls            a call of a function whose contract is known (`Says.antt`)
@@ -44,6 +46,7 @@ use denote.Ref.{RefT}
 use denote.Slice.{sliceTy, Room}
 use denote.Laws.{Is}
 use denote.Array.{Array}
+use denote.ArrayMemory.{Single}
 use denote.Enum.Declared as En
 use denote.Enum.Laws as EL
 use denote.Struct.Declared.{Declared, row, fields, shape}
@@ -64,7 +67,9 @@ use borrow.Enum.Whole.{reads-enum}
 use borrow.Rule.Array.Borrow as Borrow
 use borrow.Rule.Array.Init as Init
 use borrow.Rule.Array.Repeat as Repeat
-use borrow.Rule.Array.Rows.{arrF, arr-owed}
+use borrow.Rule.Array.Rows.{arrF, arr-owed, arr-shr}
+use borrow.Rule.Array.Share as Share
+use borrow.Rule.Array.Whole.{arr-mem}
 use borrow.Rule.AtSlots.{g-as-by}
 use borrow.Rule.DerefMove.{learns-nothing}
 use borrow.Rule.Lifetime as Lifetime
@@ -203,6 +208,19 @@ LentAll L K R n a p d β = Relend.AfterAgg R (Relend.asMut R) (LendAll L K R n a
 
 abbrev pub BackAll : List Entry → List Life → RattleType → (n d a β : ℕ) → Cx
 BackAll L K R n d a β = Local.AfterBack (Lifetime.Ended (cx L K) β) d a β (sliceTy (ref R erased)) (arrF R n zero)
+
+-- the same while it is shared, and once it is not
+abbrev pub refAllS : RattleType → ℕ → Ty
+refAllS R n = tyRef erased imm (tyArray (pointee (R .written)) n)
+
+abbrev pub ShareAll : List Entry → List Life → RattleType → (n a p β : ℕ) → Cx
+ShareAll L K R n a p β = Local.AfterLend (Lifetime.Begun (cx L K) β) a p (arr-shr R n β) (Relend.ssptr R (refAllS R n) β)
+
+abbrev pub SharedAll : List Entry → List Life → RattleType → (n a p d β : ℕ) → List Entry
+SharedAll L K R n a p d β = Relend.AfterAgg R (Relend.asShr R) (ShareAll L K R n a p β) p d β (refAllS R n) (refS R erased) .locals
+
+abbrev pub UnsharedAll : List Entry → List Life → RattleType → (n a β : ℕ) → Cx
+UnsharedAll L K R n a β = Local.AfterOver (Lifetime.Ended (cx L K) β) a β (arrF R n zero)
 
 -- a derivation of each arm of a switch
 module _ {M : Type 1} (𝓤 : URA M) (H : Heap 𝓤) (A : Atoms 𝓤) (W : Given 𝓤 H A) (𝓣 : Tables 𝓤 H) (E : Env 𝓤 H) (L : List Entry) (K : List Life) (Δ : Outs) where
@@ -430,6 +448,38 @@ module _ {M : Type 1} {𝓤 : URA M} {H : Heap 𝓤} {A : Atoms 𝓤} {W : Given
       ghost! (Lifetime.g-end 𝓤 H A W E (cx L K) β (h .0)) ⊕ ghost! (Borrow.g-back-arr 𝓤 H A W E R (Lifetime.Ended (cx L K) β) d a β n (ref R erased) hd ha (h .1) (h .2) (h .3))
       ⊕ ghost! (Lifetime.g-forget 𝓤 H A W E (BackAll L K R n d a β) β dead (h .4))
 
+  -- `d = copy y`, where y holds a full local array
+  abbrev pub copies-all : {L : List Entry} {K : List Life} (R : RattleType) → Single (R .mir) → (n y d : ℕ) (h k : ent₁ (cx L K) y d .1 .Mod → List (R .Denot))
+      → Yields.Yields 𝓤 H A (λ ρ. Unit {0}) (tyArray (lone (R .mir)) n) (ent₁ (cx L K) y d .1) (arrF R n zero) (Array R n) h k × ToRoom 𝓤 H A (ent₂ (cx L K) y d .1) (tyArray (lone (R .mir)) n)
+      × (spotOf 𝓤 H E (ent₁ (cx L K) y d .0) .0 ≡ tyArray (lone (R .mir)) n) × (spotOf 𝓤 H E (ent₂ (cx L K) y d .0) .0 ≡ tyArray (lone (R .mir)) n)
+      → S 𝓤 H A W 𝓣 E L K (assign (place (ent₂ (cx L K) y d .0) []) (rvOpd (copy (place (ent₁ (cx L K) y d .0) [])))) (Local.AfterLend (cx L K) y d (arrF R n zero) (arrF R n zero) .locals) K
+  copies-all {L} {K} R one n y d h k p =
+      rule (LocalCopy.t-val-copy 𝓤 H A W E 𝓣 (λ ρ. Unit {0}) (cx L K) y d (Array R n) (tyArray (lone (R .mir)) n) (tyArray (lone (R .mir)) n) (arrF R n zero) (arrF R n zero) h k (λ x. x) refl (told-none 𝓤 H A K) (p .0) (p .1)
+      (Yields.makes-mem 𝓤 H A W (λ ρ. Unit {0}) (Array R n) refl (arrF R n zero) (λ x. x) (λ ρ told. arr-mem 𝓤 H A W R n one ρ)) (p .2) (p .3))
+
+  -- `p = addrOf a; d = aggregate [copy p, n]`: the full local array a is shared with d for a new lifetime β. x is the count
+  abbrev pub shares-all : {L : List Entry} {K : List Life} {b : Body} {Δ : Outs} (R : RattleType) (n a p d β : ℕ) (ha : ent₁ (Lifetime.Begun (cx L K) β) a p .1 .Mod → List (R .Denot)) (hp : ent₁ (ShareAll L K R n a p β) p d .1 .Mod → RefT (List (R .Denot))) (x : Oper (tab₂ (ShareAll L K R n a p β) p d))
+      → Fresh β L → Room R n
+      → As 𝓤 H A (ent₁ (Lifetime.Begun (cx L K) β) a p .1) (arrF R n zero) ha × ToRoom 𝓤 H A (ent₂ (Lifetime.Begun (cx L K) β) a p .1) (refAllS R n) × (spotOf 𝓤 H E (ent₂ (Lifetime.Begun (cx L K) β) a p .0) .0 ≡ refAllS R n)
+      → As 𝓤 H A (ent₁ (ShareAll L K R n a p β) p d .1) (Relend.ssptr R (refAllS R n) β) hp × ToRoom 𝓤 H A (ent₂ (ShareAll L K R n a p β) p d .1) (sliceTy (refS R erased)) × HasO 𝓤 H A E (tab₂ (ShareAll L K R n a p β) p d) x
+      × (spotOf 𝓤 H E (ent₁ (ShareAll L K R n a p β) p d .0) .0 ≡ refAllS R n) × (spotOf 𝓤 H E (ent₂ (ShareAll L K R n a p β) p d .0) .0 ≡ sliceTy (refS R erased))
+      → D 𝓤 H A W 𝓣 E (SharedAll L K R n a p d β) (setLife β alive K) b Δ
+      → D 𝓤 H A W 𝓣 E L K (seq (assign (place (ent₂ (Lifetime.Begun (cx L K) β) a p .0) []) (addrOf (place (ent₁ (Lifetime.Begun (cx L K) β) a p .0) [])))
+      (seq (assign (place (ent₂ (ShareAll L K R n a p β) p d .0) []) (aggregate (copy (place (ent₁ (ShareAll L K R n a p β) p d .0) []) ∷ opO (tab₂ (ShareAll L K R n a p β) p d) x ∷ []))) b)) Δ
+  shares-all {L} {K} {b} {Δ} R n a p d β ha hp x f rm h g k =
+      ghost! (Lifetime.g-begin 𝓤 H A W E (cx L K) β f) ▹
+      rule (Share.t-arr-share 𝓤 H A W E 𝓣 R (Lifetime.Begun (cx L K) β) a p n β (refAllS R n) ha (h .0) (h .1) (h .2) (λ b o. tt) rm) ▸
+      rule (Relend.t-sl-aggregate 𝓤 H A W E R 𝓣 (Relend.asShr R) (ShareAll L K R n a p β) p d β (refAllS R n) (refS R erased) hp x (g .0) (g .1) (g .2) (g .3) (g .4) (λ b o k. tt)) ▸
+      k
+
+  -- the `&[T]` was let go by `clears`: its lifetime ends, and the array a is back as it was
+  abbrev pub unshares-all : {L : List Entry} {K : List Life} (R : RattleType) (n a β : ℕ) (ha : getRow a L .1 .Mod → ℕ × List (R .Denot))
+      → (getLife β K ≡ alive) × As 𝓤 H A (getRow a L .1) (arr-shr R n β) ha × (getLife β (Lifetime.Ended (cx L K) β .slots) ≡ dead) × (getLife β (UnsharedAll L K R n a β .slots) ≡ dead)
+      → G 𝓤 H A W 𝓣 E L K (UnsharedAll L K R n a β .locals) (setLife β off (UnsharedAll L K R n a β .slots))
+  unshares-all {L} {K} R n a β ha h =
+      ghost! (Lifetime.g-end 𝓤 H A W E (cx L K) β (h .0)) ⊕ ghost! (Share.g-back-arr-shr 𝓤 H A W E R (Lifetime.Ended (cx L K) β) a n β ha (h .1) (h .2))
+      ⊕ ghost! (Lifetime.g-forget 𝓤 H A W E (UnsharedAll L K R n a β) β dead (h .3))
+
   -- ---- enums. `switch y.tag { .. }`, where y holds an enum
   abbrev pub matches : {L : List Entry} {K : List Life} {arms : Arms} {Δ : Outs} (N : En.Record) (y : ℕ) (h : getRow y L .1 .Mod → N .D) → HasO 𝓤 H A E L (oFld y tagAt (tyInt w8) 0 (λ x. tagV N (h x)))
       → DArms 𝓤 H A W 𝓣 E L K Δ arms → D 𝓤 H A W 𝓣 E L K (switch (copy (place (getRow y L .0) tagAt)) arms) Δ
@@ -547,8 +597,8 @@ module _ (w : World) where
     pub array-full : (n : ℕ) → As (w .𝓤) (w .H) (w .𝓖 .A) (whole (Array (row T) n)) (arrF (row T) n zero) (λ xs. xs)
     array-full n = Repeat.whole-arr (w .𝓤) (w .H) (w .𝓖 .A) W (row T) n tt
 
-    pub array-gone : (n : ℕ) → ToRoom (w .𝓤) (w .H) (w .𝓖 .A) (arrF (row T) n zero) (tyArray (layout (shape T)) n)
-    array-gone n = Init.room-arr (w .𝓤) (w .H) (w .𝓖 .A) W (row T) n zero n (add-zero n)
+  pub array-gone : (R : RattleType) (n : ℕ) → ToRoom (w .𝓤) (w .H) (w .𝓖 .A) (arrF R n zero) (tyArray (lone (R .mir)) n)
+  array-gone R n = Init.room-arr (w .𝓤) (w .H) (w .𝓖 .A) W R n zero n (add-zero n)
 
   -- an enum shows its tag; one that is known at a variant tells its fields' relations, and can be let go
   module _ (N : En.Record) (l : EL.Laws (En.declared N)) where

@@ -27,7 +27,7 @@ pub fn get(room: &mut [Claim], at: usize) -> Claim
 }
 
 // The record of a place that holds none.
-fn blank_claim() -> Claim
+pub fn blank_claim() -> Claim
     ensures { λ r. ⌜ r ≡ blank ⌝ }
 {
     Claim {

@@ -1,19 +1,20 @@
--- The walk over the steps: the array holds the goals that are open, and the judge is where the walk is. A step writes only at the current
--- goal and above it, so the goals that wait stay as they are. Assumes nothing.
-use Prim.Native.Nat.{ℕ, zero, suc, _+_, _-_, _≤_, _<_}
+-- One line of a derivation: what it does is what the judge does, with the goals that are open. Where a row fails the verdict is there; where all
+-- pass, the premises take the current goal's place. Assumes nothing.
+use Prim.Native.Nat.{ℕ, zero, suc, _+_, _-_, _*_, _≤_, _<_}
 use native.Mathlib.Omega.{arith}
 use native.Mathlib.Numerals.{add-one}
 use native.Mathlib.Decide.{ℕ-discrete}
-use mathlib.Core.Bool.{cond}
+use mathlib.Core.Bool.{Bool, true, false, cond, false≢true}
 use mathlib.Core.List.{List, [], _∷_, _++_}
 use mathlib.Core.Path.{_≡_, refl, sym, ap, ap₂, subst, _∙_}
+use lib.Dec.{eqb}
 use lib.ListN.{length, getD, set, drop, length-set}
 use lib.Seq.{getD-set-same, getD-set-other}
-use borrow.Author.Tests.{lt-ltb, le-ltb}
+use borrow.Author.Tests.{lt-ltb, le-ltb, eq-eqb, ne-eqb}
 use Rattle.lines.specs.Text.{linesOf}
 use Rattle.lines.specs.declared.Line.{Line}
 use Rattle.lines.proofs.Told.{Told, told}
-use Rattle.lines.proofs.Loop.{Line-found, Line-bad}
+use Rattle.reading.proofs.Loop.{Line-found, Line-bad}
 use Rattle.alc.specs.Lists.{isEmpty}
 use Rattle.alc.specs.Rows.{refusal}
 use Rattle.alc.specs.Table.{Table}
@@ -21,7 +22,7 @@ use Rattle.alc.specs.Claims.{Sided, Goal}
 use Rattle.alc.specs.Rules.{plan}
 use Rattle.alc.specs.Goals.{premises}
 use Rattle.alc.specs.Dossier.{saying}
-use Rattle.alc.specs.Shown.{records, Shows, tableOf}
+use Rattle.alc.specs.Shown.{Shows, tableOf}
 use Rattle.alc.specs.Verdict.{Verdict, proved, refused, rows, ending, judge}
 use Rattle.alc.specs.declared.Goal.{Goal as Records}
 use Rattle.alc.proofs.ShownLaws.{table-length}
@@ -30,253 +31,226 @@ use Rattle.goals.specs.Records.{Leaves, none, one, two}
 use Rattle.heading.specs.Parts.{inSteps, Columns}
 use Rattle.heading.proofs.Judging.{judge-end, judge-bad, judge-next, judge-refused}
 use Rattle.steps.specs.Turning.{stepIn, Turned}
+use Rattle.steps.specs.Acting
+use Rattle.steps.specs.Acting.{restingOf, stoppedOf, passedOf, tookOf, openOf, partedOf, takenOf, closedOf, verdictOf, Ready, Current, from, Acts, Acted}
+use Rattle.steps.specs.declared.State.{State}
+use Rattle.steps.specs.declared.Act.{Act}
 use Rattle.steps.proofs.StepLaws.{step-word, rows-5, rows-9, rows-turn, after-turn}
 
--- what stands past the end of an array of goals
-abbrev pub noGoal : Records
-noGoal = record { claims = []; count = 0 }
+refused-by : (k n : ℕ) → (k ≡ 0 → ⊥) → verdictOf k n ≡ refused k n
+refused-by zero n z = absurd (z refl)
+refused-by (suc k) n z = refl
 
--- the goals, the current one first, are those that the array shows, the current one last
-abbrev pub Stack : List Records → List Goal → Type 0
-Stack gs [] = Unit {0}
-Stack gs (h ∷ hs) = Shows (getD gs (length hs) noGoal) h × Stack gs hs
-
--- a goal that is stored above the others leaves them as they are
-stays : (gs : List Records) (k : ℕ) (g : Records) (hs : List Goal) → length hs ≤ k → Stack gs hs → Stack (set gs k g) hs
-stays gs k g [] h s = tt
-stays gs k g (x ∷ hs) h s =
-    (ap (λ (r : Records). records r) (getD-set-other gs k (length hs) g noGoal (omega arith)) ∙ s .0, stays gs k g hs (omega arith) (s .1))
-
-pushed : (gs : List Records) (k : ℕ) (g : Records) (x : Goal) (hs : List Goal) → k < length gs → k ≡ length hs → Shows g x → Stack gs hs → Stack (set gs k g) (x ∷ hs)
-pushed gs k g x hs l e sh s =
-    (ap (λ (j : ℕ). records (getD (set gs k g) j noGoal)) (sym e) ∙ ap (λ (r : Records). records r) (getD-set-same gs k g noGoal l) ∙ sh, stays gs k g hs (omega arith) s)
-
-module _ (text ks xs ys : List ℕ) (start before entries : ℕ) (claims : Records) where
+module _ (text ks xs ys : List ℕ) (entries : ℕ) (s : State) (v : Ready text ks xs ys entries s) where
   abbrev T : Table
   T = tableOf ks xs ys entries
 
-  -- the verdict on the steps, at these claims
-  abbrev whole : List Sided → Verdict
-  whole cs = judge before (inSteps T cs 0 (cs ∷ [])) (linesOf (drop start text))
+  -- the verdict from here on, at these claims and goals
+  abbrev whole : List Sided → List Goal → Verdict
+  whole cs gs = from T cs text s gs
 
-  -- it is the verdict at all claims that are shown
-  abbrev pub Decided : Verdict → Type 0
-  Decided k = (cs : List Sided) → Shows claims cs → k ≡ whole cs
+  -- it is so whatever goals are open
+  abbrev Decided : Verdict → Type 0
+  Decided k = (cs : List Sided) (gs : List Goal) → s .open ≡ length gs → Current (s .goal) gs → k ≡ whole cs gs
 
-  -- the goals that are open, and where the judge is
-  pub record Stands (gs : List Records) («open» steps n at : ℕ) (cs : List Sided) : Type 0 where
-    pub goals : List Goal
-    pub count : «open» ≡ length goals
-    pub stack : Stack gs goals
-    pub so : whole cs ≡ judge n (inSteps T cs steps goals) (linesOf (drop at text))
-
-  pub record Walk (gs : List Records) («open» steps n at : ℕ) : Type 0 where
-    pub columns : Columns ks xs ys entries
-    pub long : length gs ≡ 17
-    pub few : «open» ≤ 17
-    pub sizes : (i : ℕ) → i < «open» → getD gs i noGoal .count ≤ 64
-    pub within : at ≤ length text
-    pub counted : n ≤ at
-    pub stands : (cs : List Sided) → Shows claims cs → Stands gs «open» steps n at cs
-
-  pub walk-begin : (gs : List Records) → Columns ks xs ys entries → start ≤ length text → before ≤ start → claims .count ≤ 64 → length gs ≡ 16 → Walk (claims ∷ gs) 1 0 before start
-  walk-begin gs k w b c l = record {
-    columns = k;
-    long = omega arith;
-    few = omega arith;
-    sizes = λ i h. first i h;
-    within = w;
-    counted = b;
-    stands = λ cs sh. record { goals = cs ∷ []; count = refl; stack = (sh, tt); so = refl };
+  -- the verdict is there
+  stops : (k n : ℕ) → Decided (verdictOf k n) → Acted text ks xs ys entries s (restingOf (stoppedOf s k n))
+  stops k n d = record {
+    ready = λ e. absurd (false≢true (sym e));
+    stores = λ (e : _≡_ {A = ℕ} 0 1). absurd (omega arith);
+    fetches = λ (e : _≡_ {A = ℕ} 0 2). absurd (omega arith);
+    acts = λ cs gs o c. Acting.stops gs refl refl (d cs gs o c);
   }
+
+  -- one line more has been read
+  line-more : (k : ℕ) → refused k (suc (s .lines)) ≡ refused k (s .lines + 1)
+  line-more k = ap (refused k) (sym (add-one (s .lines)))
+
+  pub stops-bad : Line-bad text (s .at) 2 → Acted text ks xs ys entries s (restingOf (stoppedOf s 2 (s .lines + 1)))
+  stops-bad b = stops 2 (s .lines + 1) (λ cs gs o c. sym (judge-bad text (s .at) 2 (s .lines) (inSteps T cs (s .steps) gs) refl b ∙ line-more 2))
+
+  -- at the end
+  ended : (cs : List Sided) (gs : List Goal) → linesOf (drop (s .at) text) ≡ [] → whole cs gs ≡ cond (isEmpty gs) (proved (s .lines)) (refused 12 (suc (s .lines)))
+  unfolding ending
+  ended cs gs e = judge-end (s .lines) (inSteps T cs (s .steps) gs) _ e
+
+  pub stops-open : linesOf (drop (s .at) text) ≡ [] → 0 < s .open → Acted text ks xs ys entries s (restingOf (stoppedOf s 12 (s .lines + 1)))
+  stops-open e h = stops 12 (s .lines + 1) (λ cs gs o c. sym (ended cs gs e ∙ go gs o ∙ line-more 12))
     where
-      first : (i : ℕ) → i < 1 → getD (claims ∷ gs) i noGoal .count ≤ 64
-      first zero h = c
-      first (suc i) h = absurd (omega arith)
+      go : (hs : List Goal) → s .open ≡ length hs → cond (isEmpty hs) (proved (s .lines)) (refused 12 (suc (s .lines))) ≡ refused 12 (suc (s .lines))
+      go [] q = absurd (omega arith)
+      go (x ∷ hs) q = refl
 
-  module _ (gs : List Records) («open» steps n at : ℕ) (v : Walk gs «open» steps n at) where
-    -- one line more has been read
-    line-more : (k : ℕ) → refused k (suc n) ≡ refused k (n + 1)
-    line-more k = ap (refused k) (sym (add-one n))
+  pub stops-proved : linesOf (drop (s .at) text) ≡ [] → s .open ≤ 0 → Acted text ks xs ys entries s (restingOf (stoppedOf s 0 (s .lines)))
+  stops-proved e h = stops 0 (s .lines) (λ cs gs o c. sym (ended cs gs e ∙ go gs o))
+    where
+      go : (hs : List Goal) → s .open ≡ length hs → cond (isEmpty hs) (proved (s .lines)) (refused 12 (suc (s .lines))) ≡ proved (s .lines)
+      go [] q = refl
+      go (x ∷ hs) q = absurd (omega arith)
 
-    pub stops-bad : Line-bad text at 2 → Decided (refused 2 (n + 1))
-    stops-bad b cs sh =
-        let s = v .stands cs sh in
-        sym (s .so ∙ judge-bad text at 2 n (inSteps T cs steps (s .goals)) refl b ∙ line-more 2)
+  -- at a line
+  module _ (l : Line) (to : ℕ) (f : Line-found text (s .at) 2 l to) where
+    t : Told l
+    t = told (drop (s .at) text) l (linesOf (drop to text)) (f .lines)
 
-    -- at the end
-    ended : (cs : List Sided) (hs : List Goal) → linesOf (drop at text) ≡ [] → judge n (inSteps T cs steps hs) (linesOf (drop at text)) ≡ cond (isEmpty hs) (proved n) (refused 12 (suc n))
-    unfolding ending
-    ended cs hs e = judge-end n (inSteps T cs steps hs) _ e
+    pub word : (13 ≤ l .word) × (l .word < 32)
+    word = step-word l t (f .allowed)
 
-    pub stops-open : linesOf (drop at text) ≡ [] → 0 < «open» → Decided (refused 12 (n + 1))
-    stops-open e h cs sh = let s = v .stands cs sh in sym (s .so ∙ ended cs (s .goals) e ∙ go (s .goals) (s .count) ∙ line-more 12)
-      where
-        go : (hs : List Goal) → «open» ≡ length hs → cond (isEmpty hs) (proved n) (refused 12 (suc n)) ≡ refused 12 (suc n)
-        go [] q = absurd (omega arith)
-        go (x ∷ hs) q = refl
+    long-table : length T ≡ entries
+    long-table = table-length ks xs ys entries
 
-    pub stops-proved : linesOf (drop at text) ≡ [] → «open» ≤ 0 → Decided (proved n)
-    stops-proved e h cs sh = let s = v .stands cs sh in sym (s .so ∙ ended cs (s .goals) e ∙ go (s .goals) (s .count))
-      where
-        go : (hs : List Goal) → «open» ≡ length hs → cond (isEmpty hs) (proved n) (refused 12 (suc n)) ≡ proved n
-        go [] q = refl
-        go (x ∷ hs) q = absurd (omega arith)
+    refuses : (k : ℕ) → (k ≡ 0 → ⊥) → ((cs : List Sided) (gs : List Goal) → s .open ≡ length gs → Current (s .goal) gs → refusal (rows (inSteps T cs (s .steps) gs) (saying l)) ≡ k)
+        → Acted text ks xs ys entries s (restingOf (stoppedOf s k (s .lines + 1)))
+    refuses k z r =
+        stops k (s .lines + 1)
+        (λ cs gs o c. refused-by k (s .lines + 1) z ∙ sym (judge-refused text (s .at) 2 (s .lines) (inSteps T cs (s .steps) gs) refl l to f k (r cs gs o c) z ∙ line-more k))
 
-    -- at a line
-    module _ (l : Line) (to : ℕ) (f : Line-found text at 2 l to) where
-      t : Told l
-      t = told (drop at text) l (linesOf (drop to text)) (f .lines)
+    pub stops-5 : 1024 ≤ s .steps → Acted text ks xs ys entries s (restingOf (stoppedOf s 5 (s .lines + 1)))
+    stops-5 h =
+        refuses 5 (λ (z : _≡_ {A = ℕ} 5 0). omega arith)
+        (λ cs gs o c. rows-5 T entries long-table (v .columns .few) l t (word .0) (word .1) cs (s .steps) gs (le-ltb (s .steps) 1024 h))
 
-      pub word : (13 ≤ l .word) × (l .word < 32)
-      word = step-word l t (f .allowed)
+    module _ (room : s .steps < 1024) where
+      pub stops-9 : s .open ≡ 0 → Acted text ks xs ys entries s (restingOf (stoppedOf s 9 (s .lines + 1)))
+      stops-9 h = refuses 9 (λ (z : _≡_ {A = ℕ} 9 0). omega arith) (λ cs gs o c. go cs gs o)
+        where
+          go : (cs : List Sided) (hs : List Goal) → s .open ≡ length hs → refusal (rows (inSteps T cs (s .steps) hs) (saying l)) ≡ 9
+          go cs [] q = rows-9 T entries long-table (v .columns .few) l t (word .0) (word .1) cs (s .steps) (lt-ltb (s .steps) 1024 room)
+          go cs (x ∷ hs) q = absurd (omega arith)
 
-      long-table : length T ≡ entries
-      long-table = table-length ks xs ys entries
+      -- with a goal open, on which the line turns
+      module _ (some : s .open ≡ 0 → ⊥) (u : Turn) (d : (cs : List Sided) → Shows (s .goal) cs → Turned T entries l cs (s .open - 1) u) where
+        -- the line's turn at the current goal x, with those of hs waiting
+        turn-here : (x : Goal) (hs : List Goal) → s .open ≡ suc (length hs) → Shows (s .goal) x → Turned T entries l x (length hs) u
+        turn-here x hs q c = let b : s .open - 1 ≡ length hs = omega arith in subst (λ (k : ℕ). Turned T entries l x k u) b (d x c)
 
-      refuses : (k : ℕ) → (k ≡ 0 → ⊥) → ((cs : List Sided) → (sh : Shows claims cs) → refusal (rows (inSteps T cs steps (v .stands cs sh .goals)) (saying l)) ≡ k) → Decided (refused k (n + 1))
-      refuses k z r cs sh =
-          let s = v .stands cs sh in
-          sym (s .so ∙ judge-refused text at 2 n (inSteps T cs steps (s .goals)) refl l to f k (r cs sh) z ∙ line-more k)
+        rows-here : (cs : List Sided) (x : Goal) (hs : List Goal) → s .open ≡ suc (length hs) → Shows (s .goal) x → refusal (rows (inSteps T cs (s .steps) (x ∷ hs)) (saying l)) ≡ u .number
+        rows-here cs x hs q c =
+            rows-turn T entries long-table (v .columns .few) l t (word .0) (word .1) cs (s .steps) x hs (lt-ltb (s .steps) 1024 room) ∙ sym (turn-here x hs q c .number)
 
-      pub stops-5 : 1024 ≤ steps → Decided (refused 5 (n + 1))
-      stops-5 h =
-          refuses 5 (λ (z : _≡_ {A = ℕ} 5 0). omega arith)
-          (λ cs sh. rows-5 T entries long-table (v .columns .few) l t (word .0) (word .1) cs steps (v .stands cs sh .goals) (le-ltb steps 1024 h))
-
-      module _ (room : steps < 1024) where
-        pub stops-9 : «open» ≡ 0 → Decided (refused 9 (n + 1))
-        stops-9 h = refuses 9 (λ (z : _≡_ {A = ℕ} 9 0). omega arith) (λ cs sh. go cs (v .stands cs sh .goals) (v .stands cs sh .count))
+        pub stops-turn : (u .number ≡ 0 → ⊥) → Acted text ks xs ys entries s (restingOf (stoppedOf s (u .number) (s .lines + 1)))
+        stops-turn z = refuses (u .number) z go
           where
-            go : (cs : List Sided) (hs : List Goal) → «open» ≡ length hs → refusal (rows (inSteps T cs steps hs) (saying l)) ≡ 9
-            go cs [] q = rows-9 T entries long-table (v .columns .few) l t (word .0) (word .1) cs steps (lt-ltb steps 1024 room)
-            go cs (x ∷ hs) q = absurd (omega arith)
+            go : (cs : List Sided) (hs : List Goal) → s .open ≡ length hs → Current (s .goal) hs → refusal (rows (inSteps T cs (s .steps) hs) (saying l)) ≡ u .number
+            go cs [] q c = absurd (some q)
+            go cs (x ∷ hs) q c = rows-here cs x hs q c
 
-        -- with a goal open, on which the line turns
-        abbrev base : ℕ
-        base = «open» - 1
+        -- the line passes: the goals that are open are its premises and those that wait
+        module _ (z : u .number ≡ 0) where
+          abbrev p : State
+          p = passedOf s (s .lines + 1) to
 
-        module _ (some : «open» ≡ 0 → ⊥) (u : Turn) (d : (cs : List Sided) → Shows (getD gs base noGoal) cs → Turned T entries l cs base u) where
-          -- the line's turn at the current goal x, with those of hs waiting
-          turn-here : (x : Goal) (hs : List Goal) → «open» ≡ suc (length hs) → Stack gs (x ∷ hs) → Turned T entries l x (length hs) u
-          turn-here x hs q s =
-              let b : base ≡ length hs = omega arith in
-              subst (λ (k : ℕ). Turned T entries l x k u) b (d x (ap (λ (k : ℕ). records (getD gs k noGoal)) b ∙ s .0))
+          passes : (cs : List Sided) (x : Goal) (hs : List Goal) → s .open ≡ suc (length hs) → Shows (s .goal) x
+              → whole cs (x ∷ hs) ≡ from T cs text p (premises (plan T (stepIn l)) x ++ hs)
+          passes cs x hs q c =
+              let r = turn-here x hs q c in
+              judge-next text (s .at) 2 (s .lines) (inSteps T cs (s .steps) (x ∷ hs)) refl l to f (rows-here cs x hs q c ∙ z)
+              ∙ ap (λ S. judge (suc (s .lines)) S (linesOf (drop to text))) (after-turn T entries long-table (v .columns .few) l t (word .0) (word .1) cs (s .steps) x hs (length hs) (sym (r .number) ∙ z))
+              ∙ ap₂ (λ k j. judge k (inSteps T cs j (premises (plan T (stepIn l)) x ++ hs)) (linesOf (drop to text))) (sym (add-one (s .lines))) (sym (add-one (s .steps)))
 
-          rows-here : (cs : List Sided) (x : Goal) (hs : List Goal) → «open» ≡ suc (length hs) → Stack gs (x ∷ hs) → refusal (rows (inSteps T cs steps (x ∷ hs)) (saying l)) ≡ u .number
-          rows-here cs x hs q s =
-              rows-turn T entries long-table (v .columns .few) l t (word .0) (word .1) cs steps x hs (lt-ltb steps 1024 room) ∙ sym (turn-here x hs q s .number)
+          leaves : (x : Goal) (hs : List Goal) → s .open ≡ suc (length hs) → Shows (s .goal) x → Leaves u (premises (plan T (stepIn l)) x)
+          leaves x hs q c = turn-here x hs q c .leaves z
 
-          pub stops-turn : (u .number ≡ 0 → ⊥) → Decided (refused (u .number) (n + 1))
-          stops-turn z = refuses (u .number) z (λ cs sh. go cs (v .stands cs sh .goals) (v .stands cs sh .count) (v .stands cs sh .stack))
+          -- another goal, other counts and another count of open goals, behind the line
+          again : (g : Records) (counts : List ℕ) (n : ℕ) → g .count ≤ 64 → length counts ≡ 16 → ((i : ℕ) → getD counts i 0 ≤ 64) → n ≤ 17
+              → Ready text ks xs ys entries (Acting.stateOf g counts n (s .steps + 1) (s .lines + 1) to (s .ended) (s .number))
+          again g counts n small slots sizes few = record {
+            columns = v .columns;
+            fits = v .fits;
+            going = v .going;
+            few = few;
+            small = small;
+            slots = slots;
+            sizes = sizes;
+            within = f .within;
+            counted = omega (arith, v .counted, f .later);
+          }
+
+          -- one premise
+          pub goes-one : u .under .count ≤ 64 → u .opens ≡ 1 → Acted text ks xs ys entries s (restingOf (tookOf p (u .under)))
+          goes-one small h = record {
+            ready = λ e. (again (u .under) (s .counts) (s .open) small (v .slots) (v .sizes) (v .few), f .later);
+            stores = λ (e : _≡_ {A = ℕ} 0 1). absurd (omega arith);
+            fetches = λ (e : _≡_ {A = ℕ} 0 2). absurd (omega arith);
+            acts = go;
+          }
             where
-              go : (cs : List Sided) (hs : List Goal) → «open» ≡ length hs → Stack gs hs → refusal (rows (inSteps T cs steps hs) (saying l)) ≡ u .number
-              go cs [] q s = absurd (some q)
-              go cs (x ∷ hs) q s = rows-here cs x hs q s
+              at : (cs : List Sided) (x : Goal) (hs ps : List Goal) → Leaves u ps → whole cs (x ∷ hs) ≡ from T cs text p (ps ++ hs)
+                  → Acts T cs text s (restingOf (tookOf p (u .under))) (x ∷ hs)
+              at cs x hs [] (none o) e = absurd (omega (arith, o, h))
+              at cs x hs (y ∷ []) (one k o sy) e = Acting.carries x y hs refl (v .going) refl refl sy e
+              at cs x hs (y ∷ y′ ∷ []) (two a b o sa sb) e = absurd (omega (arith, o, h))
 
-          -- the line passes: the goals that are open are its premises and those that wait
-          module _ (z : u .number ≡ 0) where
-            pub record Passed (cs : List Sided) : Type 0 where
-              pub new : List Goal
-              pub left : List Goal
-              pub count : «open» ≡ suc (length left)
-              pub leaves : Leaves u new
-              pub stack : Stack gs left
-              pub so : whole cs ≡ judge (n + 1) (inSteps T cs (steps + 1) (new ++ left)) (linesOf (drop to text))
+              go : (cs : List Sided) (gs : List Goal) → s .open ≡ length gs → Current (s .goal) gs → Acts T cs text s (restingOf (tookOf p (u .under))) gs
+              go cs [] q c = absurd (some q)
+              go cs (x ∷ hs) q c = at cs x hs (premises (plan T (stepIn l)) x) (leaves x hs q c) (passes cs x hs q c)
 
-            passes : (cs : List Sided) → Shows claims cs → Passed cs
-            passes cs sh = let s = v .stands cs sh in go (s .goals) (s .count) (s .stack) (s .so)
-              where
-                go : (hs : List Goal) → «open» ≡ length hs → Stack gs hs → whole cs ≡ judge n (inSteps T cs steps hs) (linesOf (drop at text)) → Passed cs
-                go [] q s e = absurd (some q)
-                go (x ∷ hs) q s e =
-                    let r = turn-here x hs q s in
-                    record {
-                      new = premises (plan T (stepIn l)) x;
-                      left = hs;
-                      count = q;
-                      leaves = r .leaves z;
-                      stack = s .1;
-                      so =
-                          e
-                          ∙ judge-next text at 2 n (inSteps T cs steps (x ∷ hs)) refl l to f (rows-here cs x hs q s ∙ z)
-                          ∙ ap (λ S. judge (suc n) S (linesOf (drop to text))) (after-turn T entries long-table (v .columns .few) l t (word .0) (word .1) cs steps x hs (length hs) (sym (r .number) ∙ z))
-                          ∙ ap₂ (λ k j. judge k (inSteps T cs j (premises (plan T (stepIn l)) x ++ hs)) (linesOf (drop to text))) (sym (add-one n)) (sym (add-one steps));
-                    }
+          -- two premises
+          pub goes-two : u .under .count ≤ 64 → u .over .count ≤ 64 → u .under .count ≤ length (u .under .claims) → u .opens ≡ 2 → s .open ≤ 16
+              → Acted text ks xs ys entries s (partedOf p (u .over) (u .under))
+          goes-two small small2 full h few = record {
+            ready = λ e. (again (u .over) (set (s .counts) (s .open - 1) (u .under .count)) (s .open + 1) small2 (length-set (s .counts) (s .open - 1) (u .under .count) ∙ v .slots) sizes (omega arith), f .later);
+            stores = λ e. (small, full, omega arith);
+            fetches = λ (e : _≡_ {A = ℕ} 1 2). absurd (omega arith);
+            acts = go;
+          }
+            where
+              sizes : (i : ℕ) → getD (set (s .counts) (s .open - 1) (u .under .count)) i 0 ≤ 64
+              sizes i = size (ℕ-discrete i (s .open - 1))
+                where
+                  size : Dec (i ≡ s .open - 1) → getD (set (s .counts) (s .open - 1) (u .under .count)) i 0 ≤ 64
+                  size (yes e) = rw (e, getD-set-same (s .counts) (s .open - 1) (u .under .count) 0 (omega (arith, v .slots, few, some))) small
+                  size (no e) = rw (getD-set-other (s .counts) (s .open - 1) i (u .under .count) 0 e) (v .sizes i)
 
-            module _ (small : u .under .count ≤ 64) (fits : u .opens + base ≤ 17) where
-              -- none or one premise
-              module _ (few : u .opens ≤ 2) (h : u .opens ≡ 2 → ⊥) where
-                abbrev once : List Records
-                once = set gs base (u .under)
+              at : (cs : List Sided) (x : Goal) (hs ps : List Goal) → s .open - 1 ≡ length hs → Leaves u ps → whole cs (x ∷ hs) ≡ from T cs text p (ps ++ hs)
+                  → Acts T cs text s (partedOf p (u .over) (u .under)) (x ∷ hs)
+              at cs x hs [] q (none o) e = absurd (omega (arith, o, h))
+              at cs x hs (y ∷ []) q (one k o sy) e = absurd (omega (arith, o, h))
+              at cs x hs (y ∷ y′ ∷ []) q (two a b o sa sb) e =
+                  Acting.parts x y y′ hs refl (v .going) refl (ap (λ (n : ℕ). n * 64) q) (ap (λ (n : ℕ). set (s .counts) n (u .under .count)) q) sa sb e
 
-                stands-once : (cs : List Sided) → Passed cs → Stands once (base + u .opens) (steps + 1) (n + 1) to cs
-                stands-once cs p = go (p .new) (p .leaves) (p .so)
-                  where
-                    go : (ps : List Goal) → Leaves u ps → whole cs ≡ judge (n + 1) (inSteps T cs (steps + 1) (ps ++ p .left)) (linesOf (drop to text))
-                        → Stands once (base + u .opens) (steps + 1) (n + 1) to cs
-                    go [] (none o) e = record { goals = p .left; count = omega (arith, o, p .count); stack = stays gs base (u .under) (p .left) (omega (arith, p .count)) (p .stack); so = e }
-                    go (x ∷ []) (one y o sx) e = record {
-                      goals = x ∷ p .left;
-                      count = omega (arith, o, p .count);
-                      stack = pushed gs base (u .under) x (p .left) (omega (arith, v .long, v .few, p .count)) (omega (arith, p .count)) sx (p .stack);
-                      so = e;
-                    }
-                    go (x ∷ y ∷ []) (two a b o sx sy) e = absurd (h o)
+              go : (cs : List Sided) (gs : List Goal) → s .open ≡ length gs → Current (s .goal) gs → Acts T cs text s (partedOf p (u .over) (u .under)) gs
+              go cs [] q c = absurd (some q)
+              go cs (x ∷ hs) q c = at cs x hs (premises (plan T (stepIn l)) x) (omega arith) (leaves x hs q c) (passes cs x hs q c)
 
-                pub walk-once : Walk once (base + u .opens) (steps + 1) (n + 1) to
-                walk-once = record {
-                  columns = v .columns;
-                  long = length-set gs base (u .under) ∙ v .long;
-                  few = omega arith;
-                  sizes = λ i k. size i k (ℕ-discrete i base);
-                  within = f .within;
-                  counted = omega (arith, v .counted, f .later);
-                  stands = λ cs sh. stands-once cs (passes cs sh);
-                }
-                  where
-                    size : (i : ℕ) → i < base + u .opens → Dec (i ≡ base) → getD once i noGoal .count ≤ 64
-                    size i k (yes q) = rw (q, getD-set-same gs base (u .under) noGoal (omega (arith, v .long, v .few))) small
-                    size i k (no q) = rw (getD-set-other gs base i (u .under) noGoal q) (v .sizes i (omega arith))
+          -- no premise: the last goal, or one that is fetched
+          pub goes-none : u .opens ≡ 0 → Acted text ks xs ys entries s (closedOf p)
+          goes-none h = by (ℕ-discrete (s .open - 1) 0)
+            where
+              closed-at : (cs : List Sided) (x : Goal) (hs ps : List Goal) → Leaves u ps → whole cs (x ∷ hs) ≡ from T cs text p (ps ++ hs) → whole cs (x ∷ hs) ≡ from T cs text p hs
+              closed-at cs x hs [] (none o) e = e
+              closed-at cs x hs (y ∷ []) (one k o sy) e = absurd (omega (arith, o, h))
+              closed-at cs x hs (y ∷ y′ ∷ []) (two a b o sa sb) e = absurd (omega (arith, o, h))
 
-              -- two premises
-              module _ (small2 : u .over .count ≤ 64) (h : u .opens ≡ 2) where
-                abbrev twice : List Records
-                twice = set (set gs base (u .under)) (base + 1) (u .over)
+              left : (cs : List Sided) (x : Goal) (hs : List Goal) → s .open ≡ suc (length hs) → Shows (s .goal) x → whole cs (x ∷ hs) ≡ from T cs text p hs
+              left cs x hs q c = closed-at cs x hs (premises (plan T (stepIn l)) x) (leaves x hs q c) (passes cs x hs q c)
 
-                long-once : length (set gs base (u .under)) ≡ 17
-                long-once = length-set gs base (u .under) ∙ v .long
+              last : s .open - 1 ≡ 0 → (cs : List Sided) (gs : List Goal) → s .open ≡ length gs → Current (s .goal) gs → Acts T cs text s (restingOf (openOf p (s .open - 1))) gs
+              last e cs [] q c = absurd (some q)
+              last e cs (x ∷ []) q c = Acting.closes x refl (v .going) e (left cs x [] q c)
+              last e cs (x ∷ y ∷ hs) q c = absurd (omega arith)
 
-                stands-twice : (cs : List Sided) → Passed cs → Stands twice (base + 2) (steps + 1) (n + 1) to cs
-                stands-twice cs p = go (p .new) (p .leaves) (p .so)
-                  where
-                    go : (ps : List Goal) → Leaves u ps → whole cs ≡ judge (n + 1) (inSteps T cs (steps + 1) (ps ++ p .left)) (linesOf (drop to text))
-                        → Stands twice (base + 2) (steps + 1) (n + 1) to cs
-                    go [] (none o) e = absurd (omega (arith, o, h))
-                    go (x ∷ []) (one y o sx) e = absurd (omega (arith, o, h))
-                    go (x ∷ y ∷ []) (two a b o sx sy) e = record {
-                      goals = x ∷ y ∷ p .left;
-                      count = omega (arith, p .count);
-                      stack =
-                          pushed (set gs base (u .under)) (base + 1) (u .over) x (y ∷ p .left) (omega (arith, long-once, fits, h)) (omega (arith, p .count)) sx
-                          (pushed gs base (u .under) y (p .left) (omega (arith, v .long, v .few, p .count)) (omega (arith, p .count)) sy (p .stack));
-                      so = e;
-                    }
+              fetch : (s .open - 1 ≡ 0 → ⊥) → (cs : List Sided) (gs : List Goal) → s .open ≡ length gs → Current (s .goal) gs → Acts T cs text s (takenOf p) gs
+              fetch e cs [] q c = absurd (some q)
+              fetch e cs (x ∷ []) q c = absurd (e (omega arith))
+              fetch e cs (x ∷ y ∷ hs) q c =
+                  let k : s .open - 1 - 1 ≡ length hs = omega arith in
+                  Acting.takes x y hs refl (v .going) refl (ap (λ (n : ℕ). n * 64) k) (ap (λ (n : ℕ). getD (s .counts) n 0) k) refl (left cs x (y ∷ hs) q c)
 
-                pub walk-twice : Walk twice (base + 2) (steps + 1) (n + 1) to
-                walk-twice = record {
-                  columns = v .columns;
-                  long = length-set (set gs base (u .under)) (base + 1) (u .over) ∙ long-once;
-                  few = omega (arith, fits, h);
-                  sizes = λ i k. size i k (ℕ-discrete i (base + 1)) (ℕ-discrete i base);
-                  within = f .within;
-                  counted = omega (arith, v .counted, f .later);
-                  stands = λ cs sh. stands-twice cs (passes cs sh);
-                }
-                  where
-                    size : (i : ℕ) → i < base + 2 → Dec (i ≡ base + 1) → Dec (i ≡ base) → getD twice i noGoal .count ≤ 64
-                    size i k (yes q) r = rw (q, getD-set-same (set gs base (u .under)) (base + 1) (u .over) noGoal (omega (arith, long-once, fits, h))) small2
-                    size i k (no q) (yes r) =
-                        rw (getD-set-other (set gs base (u .under)) (base + 1) i (u .over) noGoal q, r, getD-set-same gs base (u .under) noGoal (omega (arith, v .long, v .few))) small
-                    size i k (no q) (no r) =
-                        rw (getD-set-other (set gs base (u .under)) (base + 1) i (u .over) noGoal q, getD-set-other gs base i (u .under) noGoal r) (v .sizes i (omega arith))
+              by : Dec (s .open - 1 ≡ 0) → Acted text ks xs ys entries s (closedOf p)
+              by (yes e) =
+                  subst (λ (b : Bool). Acted text ks xs ys entries s (cond b (restingOf (openOf p (s .open - 1))) (takenOf p))) (sym (eq-eqb (s .open - 1) 0 e))
+                  (record {
+                    ready = λ _. (again (s .goal) (s .counts) (s .open - 1) (v .small) (v .slots) (v .sizes) (omega (arith, v .few)), f .later);
+                    stores = λ (e : _≡_ {A = ℕ} 0 1). absurd (omega arith);
+                    fetches = λ (e : _≡_ {A = ℕ} 0 2). absurd (omega arith);
+                    acts = last e;
+                  })
+              by (no e) =
+                  subst (λ (b : Bool). Acted text ks xs ys entries s (cond b (restingOf (openOf p (s .open - 1))) (takenOf p))) (sym (ne-eqb (s .open - 1) 0 e))
+                  (record {
+                    ready = λ _. (again (s .goal) (s .counts) (s .open - 1) (v .small) (v .slots) (v .sizes) (omega (arith, v .few)), f .later);
+                    stores = λ (e : _≡_ {A = ℕ} 2 1). absurd (omega arith);
+                    fetches = λ _. (v .sizes (s .open - 1 - 1), omega (arith, v .few));
+                    acts = fetch e;
+                  })

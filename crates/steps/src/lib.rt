@@ -1,6 +1,5 @@
 // The steps of a derivation, read line by line: each works on the current goal and leaves its premises. The rules come from `goals`, the
 // lines from `lines`, and no byte is seen here.
-use alc::Answer;
 use alc::Goal;
 use goals::Entry;
 use goals::Step;
@@ -18,16 +17,11 @@ ghost use Rattle.alc.specs.Shown.{kindAt, tableOf, Shows as ShowsGoal, answered
 ghost use Rattle.alc.specs.Verdict.{judge};
 ghost use Rattle.heading.specs.Parts.{Columns, inSteps};
 ghost use Rattle.steps.specs.Turning.{Turned};
+ghost use Rattle.steps.specs.Acting.{Fits, begunOf, restingOf, stoppedOf, passedOf, tookOf, partedOf, closedOf, Ready, Acted};
 
 // The entry of number i in a table of so many, and `top` past its end: the second field of `id-link` is a name, which no rule looks up.
-fn entry_at(
-    kinds: &[u8; 256],
-    firsts: &[u8; 256],
-    seconds: &[u8; 256],
-    entries: usize,
-    i: usize,
-) -> Entry
-    requires { ⌜ Columns (now kinds) (now firsts) (now seconds) entries ⌝ }
+fn entry_at(kinds: &[u8], firsts: &[u8], seconds: &[u8], entries: usize, i: usize) -> Entry
+    requires { ⌜ Columns (now kinds) (now firsts) (now seconds) entries × Fits (now kinds) (now firsts) (now seconds) entries ⌝ }
     ensures { λ r. ⌜ (entry (tableOf (now (kinds .entry)) (now (firsts .entry)) (now (seconds .entry)) entries) i ≡ entryOf (kindAt (r .kind)) (r .x) (r .y)) × (r .kind < 8) ⌝ }
 {
     if i >= entries {
@@ -59,15 +53,15 @@ fn made_step(l: Line) -> Step
 
 // What a line does at the goal g, with so many goals waiting: its ranges are looked at before its rule.
 fn turn_at(
-    kinds: &[u8; 256],
-    firsts: &[u8; 256],
-    seconds: &[u8; 256],
+    kinds: &[u8],
+    firsts: &[u8],
+    seconds: &[u8],
     entries: usize,
     l: Line,
     g: Goal,
     waiting: usize,
 ) -> Turn
-    requires { ⌜ Columns (now kinds) (now firsts) (now seconds) entries × (13 ≤ l .word) × (l .word < 32) × (g .count ≤ 64) × (waiting ≤ 16) ⌝ }
+    requires { ⌜ Columns (now kinds) (now firsts) (now seconds) entries × Fits (now kinds) (now firsts) (now seconds) entries × (13 ≤ l .word) × (l .word < 32) × (g .count ≤ 64) × (waiting ≤ 16) ⌝ }
     ensures { λ r. ⌜ (((cs : List Sided) → ShowsGoal g cs → Turned (tableOf (now (kinds .entry)) (now (firsts .entry)) (now (seconds .entry)) entries) entries l cs waiting r) × (r .under .count ≤ 64) × (r .over .count ≤ 64) × (r .opens ≤ 2) × (r .number ≡ 0 → r .opens + waiting ≤ 17)) ⌝ }
 {
     if !heading::ranged(l, entries, 0) {
@@ -81,70 +75,191 @@ fn turn_at(
     let s = made_step(l);
     let i = s.y as usize;
     let e = entry_at(kinds, firsts, seconds, entries, i);
-    goals::turn_of(g, s, e, waiting)
+    turns::turn_of(g, s, e, waiting)
 }
 
-// Judges the lines from `start` on as steps, with so many lines of the file before them. The goals that are open stand in an array: the
-// current one last, and those below it wait.
-pub fn judge_steps(
-    text: &[u8],
-    start: usize,
-    before: usize,
-    kinds: &[u8; 256],
-    firsts: &[u8; 256],
-    seconds: &[u8; 256],
-    entries: usize,
-    claims: Goal,
-) -> Answer
-    requires { ⌜ (start ≤ length (now text)) × (before ≤ start) × Columns (now kinds) (now firsts) (now seconds) entries × (claims .count ≤ 64) ⌝ }
-    ensures { λ r. ⌜ ((cs : List Sided) → ShowsGoal claims cs → answered r ≡ judge before (inSteps (tableOf (now (kinds .entry)) (now (firsts .entry)) (now (seconds .entry)) entries) cs 0 (cs ∷ [])) (linesOf (drop start (now (text .entry))))) ⌝ }
+// Where a derivation stands: the current goal, how many claims each goal that waits has, and how far the text is read.
+pub struct State {
+    // the current goal, where one is open
+    pub goal: Goal,
+    // the claims of each goal that waits, the one put aside first at 0
+    pub counts: [usize; 16],
+    // how many goals are open: the current one and those that wait
+    pub open: usize,
+    pub steps: usize,
+    pub lines: usize,
+    pub at: usize,
+    // whether the verdict is there: then `number` is 0 or that of the refusal, and `lines` is its line
+    pub ended: bool,
+    pub number: u8,
+}
+
+// What a line asks of the room: nothing (0), that the goal `aside` is stored from `base` on (1), or that the goal of `count` claims there
+// becomes the current one (2); and the state behind the line.
+pub struct Act {
+    pub kind: u8,
+    pub base: usize,
+    pub count: usize,
+    pub aside: Goal,
+    pub next: State,
+}
+
+// The state at the first step: the claims of the file are the only goal.
+pub fn begun(claims: Goal, at: usize, lines: usize) -> State
+    ensures { λ r. ⌜ r ≡ begunOf claims at lines ⌝ }
 {
-    let empty = goals::empty();
-    let mut goals = [empty; 17];
-    goals[0] = claims;
-    let mut open: usize = 1;
-    let mut steps: usize = 0;
-    let mut n = before;
-    let mut at = start;
-    loop {
-        match lines::read(text, at, 2) {
-            Next::Found(l, next) => {
-                if steps >= 1024 {
-                    return Answer::Refused(5, n + 1);
-                }
-                if open == 0 {
-                    return Answer::Refused(9, n + 1);
-                }
-                let base = open - 1;
-                let g = goals[base];
-                let t = turn_at(kinds, firsts, seconds, entries, l, g, base);
-                let k = t.number;
-                if k != 0 {
-                    return Answer::Refused(k, n + 1);
-                }
-                steps += 1;
-                n += 1;
-                at = next;
-                // the second premise waits under the first; where the goal closes, what is stored here says nothing
-                let under = t.under;
-                goals[base] = under;
-                if t.opens == 2 {
-                    let over = t.over;
-                    goals[base + 1] = over;
-                    open = base + 2;
-                    continue;
-                }
-                open = base + t.opens;
+    State {
+        goal: claims,
+        counts: [0; 16],
+        open: 1,
+        steps: 0,
+        lines: lines,
+        at: at,
+        ended: false,
+        number: 0,
+    }
+}
+
+// Nothing is asked of the room.
+fn resting(next: State) -> Act
+    ensures { λ r. ⌜ r ≡ restingOf next ⌝ }
+{
+    let goal = next.goal;
+    Act {
+        kind: 0,
+        base: 0,
+        count: 0,
+        aside: goal,
+        next: next,
+    }
+}
+
+// The verdict is there, with its number and line.
+fn stopped(s: State, number: u8, line: usize) -> Act
+    ensures { λ r. ⌜ r ≡ restingOf (stoppedOf s number line) ⌝ }
+{
+    let mut next = s;
+    next.ended = true;
+    next.number = number;
+    next.lines = line;
+    resting(next)
+}
+
+// The line is a step that passes, and the text is read up to behind it.
+fn passed(s: State, line: usize, at: usize) -> State
+    requires { ⌜ s .steps < 1024 ⌝ }
+    ensures { λ r. ⌜ r ≡ passedOf s line at ⌝ }
+{
+    let mut next = s;
+    next.steps = s.steps + 1;
+    next.lines = line;
+    next.at = at;
+    next
+}
+
+// One premise: it becomes the current goal.
+fn carried(s: State, premise: Goal) -> Act
+    ensures { λ r. ⌜ r ≡ restingOf (tookOf s premise) ⌝ }
+{
+    resting(took(s, premise))
+}
+
+// Two premises: the first becomes the current goal, and the second waits.
+fn parted(s: State, first: Goal, second: Goal) -> Act
+    requires { ⌜ (0 < s .open) × (s .open ≤ 16) × (second .count ≤ 64) ⌝ }
+    ensures { λ r. ⌜ (r ≡ partedOf s first second) × (second .count ≤ length (second .claims)) ⌝ }
+{
+    let waiting = s.open - 1;
+    let mut next = took(s, first);
+    next.counts[waiting] = second.count;
+    next.open = s.open + 1;
+    Act {
+        kind: 1,
+        base: waiting * 64,
+        count: 0,
+        aside: second,
+        next: next,
+    }
+}
+
+// The goal closes: the one put aside last becomes current, where one waits.
+fn closed(s: State) -> Act
+    requires { ⌜ (0 < s .open) × (s .open ≤ 17) ⌝ }
+    ensures { λ r. ⌜ r ≡ closedOf s ⌝ }
+{
+    let waiting = s.open - 1;
+    let mut next = s;
+    next.open = waiting;
+    if waiting == 0 {
+        return resting(next);
+    }
+    let last = waiting - 1;
+    let goal = s.goal;
+    Act {
+        kind: 2,
+        base: last * 64,
+        count: s.counts[last],
+        aside: goal,
+        next: next,
+    }
+}
+
+// The state with another current goal.
+pub fn took(s: State, goal: Goal) -> State
+    ensures { λ r. ⌜ r ≡ tookOf s goal ⌝ }
+{
+    let mut next = s;
+    next.goal = goal;
+    next
+}
+
+// What the next line does at the state s.
+pub fn act_at(
+    text: &[u8],
+    kinds: &[u8],
+    firsts: &[u8],
+    seconds: &[u8],
+    entries: usize,
+    s: State,
+) -> Act
+    requires { ⌜ Ready (now text) (now kinds) (now firsts) (now seconds) entries s ⌝ }
+    ensures { λ r. ⌜ Acted (now (text .entry)) (now (kinds .entry)) (now (firsts .entry)) (now (seconds .entry)) entries s r ⌝ }
+{
+    let line = s.lines + 1;
+    match reading::read(text, s.at, 2) {
+        Next::Found(l, next) => {
+            if s.steps >= 1024 {
+                return stopped(s, 5, line);
             }
-            Next::Bad => {
-                return Answer::Refused(2, n + 1);
+            if s.open == 0 {
+                return stopped(s, 9, line);
             }
-            Next::End => {
-                if open > 0 {
-                    return Answer::Refused(12, n + 1);
-                }
-                return Answer::Proved(n);
+            let goal = s.goal;
+            let t = turn_at(kinds, firsts, seconds, entries, l, goal, s.open - 1);
+            let k = t.number;
+            if k != 0 {
+                return stopped(s, k, line);
             }
+            let p = passed(s, line, next);
+            let under = t.under;
+            if t.opens == 0 {
+                return closed(p);
+            }
+            if t.opens == 1 {
+                return carried(p, under);
+            }
+            let over = t.over;
+            return parted(p, over, under);
+        }
+        Next::Bad => {
+            return stopped(s, 2, line);
+        }
+        Next::End => {
+            if s.open > 0 {
+                return stopped(s, 12, line);
+            }
+            let n = s.lines;
+            return stopped(s, 0, n);
         }
     }
 }

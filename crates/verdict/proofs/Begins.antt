@@ -1,21 +1,70 @@
--- The rows before the first line: with a room of 1,088 records only the length of the text decides. Assumes nothing.
+-- The rows before the first line: the length of the room decides first, then that of the text. Assumes nothing.
 use Prim.Native.Nat.{ℕ, zero, suc, _≤_, _<_}
-use mathlib.Core.List.{List}
-use mathlib.Core.Path.{_≡_, ap}
-use lib.ListN.{length}
+use mathlib.Core.Bool.{false, true, false≢true}
+use mathlib.Core.List.{List, [], _∷_}
+use mathlib.Core.Path.{_≡_, refl, sym, ap, subst, _∙_}
+use native.Mathlib.Omega.{arith}
+use lib.ListN.{length, getD, drop, replicate, length-replicate}
 use borrow.Author.Tests.{lt-leb, le-leb}
 use Rattle.lines.specs.Text.{linesOf}
 use Rattle.alc.specs.Rows.{refusal}
+use Rattle.alc.specs.Claims.{Sided}
+use Rattle.alc.specs.Shown.{answered, Shows, tableOf}
+use Rattle.alc.specs.declared.Claim.{Claim as Record}
+use Rattle.alc.specs.declared.Goal.{Goal as Records}
+use Rattle.heading.specs.Parts.{Columns, inSteps}
+use Rattle.steps.specs.Acting.{begunOf, noCounts, Fits, Ready}
+use Rattle.derivation.specs.Waiting.{Waiting, Stands}
 use Rattle.alc.specs.Verdict.{Verdict, refused, judge, begin, outerRows, verdict}
+use Rattle.alc.specs.declared.Answer.{Answer}
+use Rattle.steps.specs.declared.State.{State}
+use Rattle.verdict.specs.Opened.{decidedOf, followingOf, Opens, Begins}
+use Rattle.verdict.specs.declared.Opening.{Opening}
 
 -- what follows the rows
 abbrev next : List ℕ → ℕ → Verdict
 next text n = elim n [ zero ↦ judge 0 begin (linesOf text) | suc k ↦ refused (suc k) 0 ]
 
-pub verdict-long : (text : List ℕ) → 65535 < length text → verdict 1088 text ≡ refused 1 0
+pub verdict-narrow : (n : ℕ) (text : List ℕ) → n < 1088 → verdict n text ≡ refused 14 0
 unfolding verdict
-verdict-long text h = let e : refusal (outerRows 1088 text) ≡ 1 = rw (lt-leb (length text) 65535 h) in ap (next text) e
+verdict-narrow n text h = let e : refusal (outerRows n text) ≡ 14 = rw (lt-leb 1088 n h) in ap (next text) e
 
-pub verdict-short : (text : List ℕ) → length text ≤ 65535 → verdict 1088 text ≡ judge 0 begin (linesOf text)
+pub verdict-long : (n : ℕ) (text : List ℕ) → 1088 ≤ n → 65535 < length text → verdict n text ≡ refused 1 0
 unfolding verdict
-verdict-short text h = let e : refusal (outerRows 1088 text) ≡ 0 = rw (le-leb (length text) 65535 h) in ap (next text) e
+verdict-long n text w h = let e : refusal (outerRows n text) ≡ 1 = rw (le-leb 1088 n w, lt-leb (length text) 65535 h) in ap (next text) e
+
+pub verdict-short : (n : ℕ) (text : List ℕ) → 1088 ≤ n → length text ≤ 65535 → verdict n text ≡ judge 0 begin (linesOf text)
+unfolding verdict
+verdict-short n text w h = let e : refusal (outerRows n text) ≡ 0 = rw (le-leb 1088 n w, le-leb (length text) 65535 h) in ap (next text) e
+
+-- an opening after which no derivation follows
+pub opens-decided : (n : ℕ) (text : List ℕ) (o : Opening) (a : Answer) → o ≡ decidedOf a (o .kinds) (o .firsts) (o .seconds) (o .state) → answered a ≡ verdict n text → Opens n text o
+opens-decided n text o a e h = record {
+  there = λ _. ap (λ (p : Opening). answered (p .answer)) e ∙ h;
+  begins = λ f. absurd (false≢true (sym (ap (λ (p : Opening). p .follows) e) ∙ f));
+}
+
+-- no goal waits at first
+zeros : (k i : ℕ) → _≡_ {A = ℕ} (getD (replicate k 0) i 0) 0
+zeros zero i = refl
+zeros (suc k) zero = refl
+zeros (suc k) (suc i) = zeros k i
+
+-- an opening after which one does
+pub opens-following : (n : ℕ) (text : List ℕ) (o : Opening) (entries : ℕ) (ks xs ys : List ℕ) (claims : Records) (at lines : ℕ) (cs : List Sided) → o ≡ followingOf entries ks xs ys (begunOf claims at lines)
+    → 1088 ≤ n → Columns ks xs ys entries → Fits ks xs ys entries → claims .count ≤ 64 → Shows claims cs → at ≤ length text → lines ≤ at
+    → verdict n text ≡ judge lines (inSteps (tableOf ks xs ys entries) cs 0 (cs ∷ [])) (linesOf (drop at text)) → Opens n text o
+unfolding noCounts
+opens-following n text o entries ks xs ys claims at lines cs e wide columns fits few shown within counted so = record {
+  there = λ f. absurd (false≢true (sym f ∙ ap (λ (p : Opening). p .follows) e));
+  begins = λ f. subst (Begins n text) (sym e) (record { wide = wide; ready = record { columns = columns; fits = fits; going = refl; few = omega arith; small = few; slots = length-replicate {A = ℕ} 16 0; sizes = λ i. rw (zeros 16 i) (omega arith); within = within; counted = counted }; cs = cs; alone = refl; current = shown; so = so });
+}
+
+-- at what the functions by value give of an opening after which a derivation follows: the loop can run, and its verdict is that of the text
+module _ (n : ℕ) (text : List ℕ) (o : Opening) (b : Begins n text o) (ks xs ys : List ℕ) (entries : ℕ) (s : State) (ek : ks ≡ o .kinds) (ex : xs ≡ o .firsts) (ey : ys ≡ o .seconds) (en : entries ≡ o .entries) (es : s ≡ o .state) where
+  pub runs : (1088 ≤ n) × Ready text ks xs ys entries s
+  runs = (b .wide, rw (ek, ex, ey, en, es) (b .ready))
+
+  pub comes-to : (l : List Record) (a : Answer) → ((cs : List Sided) (v : Verdict) → Stands (tableOf ks xs ys entries) cs text v l s → answered a ≡ v) → answered a ≡ verdict n text
+  unfolding Waiting
+  comes-to l a h = h (b .cs) (verdict n text) (rw (ek, ex, ey, en, es) (record { goals = b .cs ∷ []; count = b .alone; current = b .current; waiting = tt; so = b .so }))

@@ -7,7 +7,7 @@ use Rattle.alc.specs.Table.{Table}
 use Rattle.alc.specs.Shown.{tableOf}
 use borrow.Author.Tests.{not-true, not-false}
 use Rattle.alc.proofs.ShownLaws.{table-length}
-use Rattle.models.proofs.Agree.{claimed-more}
+use Rattle.truth.proofs.Agree.{claimed-more}
 use Rattle.facts.proofs.Ends.{shown-length, unplaced, wrong-claim, no-wrong}
 use Rattle.facts.proofs.ended.Statement.{statement}
 use Rattle.facts.proofs.ended.Tie as tie

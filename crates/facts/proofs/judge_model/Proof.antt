@@ -5,7 +5,7 @@ use native.Mathlib.Omega.{arith}
 use denote.Ref.{now}
 use borrow.Author.Needs.{needs}
 use borrow.Author.Tests.{not-true, not-false}
-use Rattle.lines.proofs.Loop.{Line-found, when-found, when-bad, when-end}
+use Rattle.reading.proofs.Loop.{Line-found, when-found, when-bad, when-end}
 use Rattle.alc.proofs.ShownLaws.{table-length}
 use Rattle.facts.proofs.FactLaws.{found-told}
 use Rattle.facts.proofs.Ends.{begins-bad, begins-end, begins-ranges, begins, sized}

@@ -9,7 +9,7 @@ use lib.ListN.{length}
 use denote.Ref.{now}
 use borrow.Author.Needs.{needs}
 use borrow.Author.Tests.{not-true, not-false}
-use Rattle.lines.proofs.Loop.{Line-found, when-found, when-bad, when-end}
+use Rattle.reading.proofs.Loop.{Line-found, when-found, when-bad, when-end}
 use Rattle.alc.specs.Lists.{every}
 use Rattle.alc.specs.Ranges.{inRange}
 use Rattle.alc.specs.Dossier.{saying}

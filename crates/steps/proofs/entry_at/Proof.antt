@@ -11,22 +11,11 @@ use Rattle.steps.proofs.entry_at.Tie as tie
 returns : tie.Need-returns
 returns c = let s = c .before in (entry-past (now (s .args .kinds)) (now (s .args .firsts)) (now (s .args .seconds)) (s .args .entries) (s .args .i) (c .if1 .taken), omega arith)
 
-element-copy-out-t9 : tie.Need-element-copy-out-t9
-element-copy-out-t9 c = search needs
-
-element-copy-out-t12 : tie.Need-element-copy-out-t12
-element-copy-out-t12 c = search needs
-
-element-copy-out-t15 : tie.Need-element-copy-out-t15
-element-copy-out-t15 c = search needs
-
 returns-2 : tie.Need-returns-2
 returns-2 c =
     let e = c .before .before .before in
     let s = e .before in
-    (table-at (now (s .args .kinds)) (now (s .args .firsts)) (now (s .args .seconds)) (s .args .entries) (s .args .i) (entryOf Kind.top 0 0) (e .if1 .left), s .pre .kinds (s .args .i) (e .if1 .left))
+    (table-at (now (s .args .kinds)) (now (s .args .firsts)) (now (s .args .seconds)) (s .args .entries) (s .args .i) (entryOf Kind.top 0 0) (e .if1 .left), s .pre .0 .kinds (s .args .i) (e .if1 .left))
 
 pub entry-at-spec : {M : Type 1} → statement M
-entry-at-spec =
-    tie.close
-    (tie.spec returns element-copy-out-t9 element-copy-out-t12 element-copy-out-t15 returns-2)
+entry-at-spec = tie.close (tie.spec returns (λ c. search needs) (λ c. search needs) (λ c. search needs) returns-2)

@@ -16,7 +16,7 @@ use Rattle.steps.proofs.turn_at.Statement.{statement}
 use Rattle.steps.proofs.turn_at.Tie as tie
 
 ranged-requires : tie.Need-ranged-requires
-ranged-requires c κs = omega (arith, c .pre .2)
+ranged-requires c κs = omega (arith, c .before .before .before .pre .3)
 
 -- the table that the columns hold
 abbrev T : tie.Start → Table
@@ -24,8 +24,8 @@ T s = tableOf (now (s .args .kinds)) (now (s .args .firsts)) (now (s .args .seco
 
 returns : tie.Need-returns
 returns c =
-    let s = c .before .before in
-    ((λ cs h. turned-3 _ _ _ cs _ _ (sym (c .before .ranged .ensures) ∙ not-true _ (c .if1 .taken)) refl), s .pre .3, s .pre .3, omega arith, λ (e : _≡_ {A = ℕ} 3 0). absurd (omega arith))
+    let s = c .before .before .before .before .before in
+    ((λ cs h. turned-3 _ _ _ cs _ _ (sym (c .before .ranged .ensures) ∙ not-true _ (c .if1 .taken)) refl), s .pre .4, s .pre .4, omega arith, λ (e : _≡_ {A = ℕ} 3 0). absurd (omega arith))
 
 made-step-requires : tie.Need-made-step-requires
 made-step-requires c κs = search needs
@@ -39,14 +39,14 @@ entry-at-requires c κs = search needs
 turn-of-requires : tie.Need-turn-of-requires
 turn-of-requires c κs =
     let m = c .before .before in
-    let s = m .before .before .before in
-    (s .pre .3, omega (arith, ap (λ (q : Step). q .rule) (m .made-step .ensures), s .pre .2), c .entry-at .ensures .1, s .pre .4)
+    let s = m .before .before .before .before .before .before in
+    (s .pre .4, omega (arith, ap (λ (q : Step). q .rule) (m .made-step .ensures), s .pre .3), c .entry-at .ensures .1, s .pre .5)
 
 returns-2 : tie.Need-returns-2
 returns-2 c =
     let m = c .before .before .before in
     let r = m .before .before in
-    let s = r .before in
+    let s = r .before .before .before .before in
     let t = c .turn-of .ensures in (
       (λ cs h.
           turned (T s) _ _ cs _ _ (sym (r .ranged .ensures) ∙ not-false _ (m .before .if1 .left))

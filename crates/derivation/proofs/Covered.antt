@@ -1,0 +1,61 @@
+-- The covered functions that the functions over the room call, as a caller takes them, from Rattle's own modules of each. Assumes nothing.
+use mathlib.Core.Path.{_≡_}
+use prog.Routine.{Env}
+use borrow.Fn.World.{World}
+use Rattle.room.proofs.Says.{Fun!, Knows}
+use Rattle.steps.proofs as Q
+use Rattle.derivation.proofs as P
+
+abbrev pub act-at : Fun!
+act-at = record { name = Q.act_at.Symbol.name; n = 4; ps = Q.act_at.Kinds.ps; r = Q.act_at.Kinds.r; P = Q.act_at.Reads.Asked; Q = Q.act_at.Reads.Learnt }
+
+pub act-at! : (w : World) (γ : Env) → γ Q.act_at.Symbol.name ≡ Q.act_at.Symbol.routine → Knows act-at w γ
+act-at! w γ e = Q.act_at.Reads.known w γ Q.act_at.Symbol.name Q.act_at.Symbol.routine e (Q.act_at.Met.met (w .𝓤) (w .H) (w .𝓜) (w .𝓖) (w .𝓡))
+
+abbrev pub took : Fun!
+took = record { name = Q.took.Symbol.name; n = 0; ps = Q.took.Kinds.ps; r = Q.took.Kinds.r; P = Q.took.Reads.Asked; Q = Q.took.Reads.Learnt }
+
+pub took! : (w : World) (γ : Env) → γ Q.took.Symbol.name ≡ Q.took.Symbol.routine → Knows took w γ
+took! w γ e = Q.took.Reads.known w γ Q.took.Symbol.name Q.took.Symbol.routine e (Q.took.Met.met (w .𝓤) (w .H) (w .𝓜) (w .𝓖) (w .𝓡))
+
+abbrev pub kind-of : Fun!
+kind-of = record { name = P.kind_of.Symbol.name; n = 0; ps = P.kind_of.Kinds.ps; r = P.kind_of.Kinds.r; P = P.kind_of.Reads.Asked; Q = P.kind_of.Reads.Learnt }
+
+pub kind-of! : (w : World) (γ : Env) → γ P.kind_of.Symbol.name ≡ P.kind_of.Symbol.routine → Knows kind-of w γ
+kind-of! w γ e = P.kind_of.Reads.known w γ P.kind_of.Symbol.name P.kind_of.Symbol.routine e (P.kind_of.Met.met (w .𝓤) (w .H) (w .𝓜) (w .𝓖) (w .𝓡))
+
+abbrev pub base-of : Fun!
+base-of = record { name = P.base_of.Symbol.name; n = 0; ps = P.base_of.Kinds.ps; r = P.base_of.Kinds.r; P = P.base_of.Reads.Asked; Q = P.base_of.Reads.Learnt }
+
+pub base-of! : (w : World) (γ : Env) → γ P.base_of.Symbol.name ≡ P.base_of.Symbol.routine → Knows base-of w γ
+base-of! w γ e = P.base_of.Reads.known w γ P.base_of.Symbol.name P.base_of.Symbol.routine e (P.base_of.Met.met (w .𝓤) (w .H) (w .𝓜) (w .𝓖) (w .𝓡))
+
+abbrev pub count-of : Fun!
+count-of = record { name = P.count_of.Symbol.name; n = 0; ps = P.count_of.Kinds.ps; r = P.count_of.Kinds.r; P = P.count_of.Reads.Asked; Q = P.count_of.Reads.Learnt }
+
+pub count-of! : (w : World) (γ : Env) → γ P.count_of.Symbol.name ≡ P.count_of.Symbol.routine → Knows count-of w γ
+count-of! w γ e = P.count_of.Reads.known w γ P.count_of.Symbol.name P.count_of.Symbol.routine e (P.count_of.Met.met (w .𝓤) (w .H) (w .𝓜) (w .𝓖) (w .𝓡))
+
+abbrev pub aside-of : Fun!
+aside-of = record { name = P.aside_of.Symbol.name; n = 0; ps = P.aside_of.Kinds.ps; r = P.aside_of.Kinds.r; P = P.aside_of.Reads.Asked; Q = P.aside_of.Reads.Learnt }
+
+pub aside-of! : (w : World) (γ : Env) → γ P.aside_of.Symbol.name ≡ P.aside_of.Symbol.routine → Knows aside-of w γ
+aside-of! w γ e = P.aside_of.Reads.known w γ P.aside_of.Symbol.name P.aside_of.Symbol.routine e (P.aside_of.Met.met (w .𝓤) (w .H) (w .𝓜) (w .𝓖) (w .𝓡))
+
+abbrev pub next-of : Fun!
+next-of = record { name = P.next_of.Symbol.name; n = 0; ps = P.next_of.Kinds.ps; r = P.next_of.Kinds.r; P = P.next_of.Reads.Asked; Q = P.next_of.Reads.Learnt }
+
+pub next-of! : (w : World) (γ : Env) → γ P.next_of.Symbol.name ≡ P.next_of.Symbol.routine → Knows next-of w γ
+next-of! w γ e = P.next_of.Reads.known w γ P.next_of.Symbol.name P.next_of.Symbol.routine e (P.next_of.Met.met (w .𝓤) (w .H) (w .𝓜) (w .𝓖) (w .𝓡))
+
+abbrev pub going : Fun!
+going = record { name = P.going.Symbol.name; n = 0; ps = P.going.Kinds.ps; r = P.going.Kinds.r; P = P.going.Reads.Asked; Q = P.going.Reads.Learnt }
+
+pub going! : (w : World) (γ : Env) → γ P.going.Symbol.name ≡ P.going.Symbol.routine → Knows going w γ
+going! w γ e = P.going.Reads.known w γ P.going.Symbol.name P.going.Symbol.routine e (P.going.Met.met (w .𝓤) (w .H) (w .𝓜) (w .𝓖) (w .𝓡))
+
+abbrev pub answer-of : Fun!
+answer-of = record { name = P.answer_of.Symbol.name; n = 0; ps = P.answer_of.Kinds.ps; r = P.answer_of.Kinds.r; P = P.answer_of.Reads.Asked; Q = P.answer_of.Reads.Learnt }
+
+pub answer-of! : (w : World) (γ : Env) → γ P.answer_of.Symbol.name ≡ P.answer_of.Symbol.routine → Knows answer-of w γ
+answer-of! w γ e = P.answer_of.Reads.known w γ P.answer_of.Symbol.name P.answer_of.Symbol.routine e (P.answer_of.Met.met (w .𝓤) (w .H) (w .𝓜) (w .𝓖) (w .𝓡))

@@ -1,0 +1,166 @@
+-- One line's act over the room: a goal that is stored in the next place leaves those below as they are and comes back as it was, and what is
+-- fetched is the goal that was put aside last. So the derivation stands behind the line as the judge does. Assumes nothing.
+use Prim.Native.Nat.{ℕ, zero, suc, _+_, _-_, _*_, _≤_, _<_}
+use native.Mathlib.Omega.{arith}
+use mathlib.Core.Bool.{Bool, true, false, cond, false≢true}
+use mathlib.Core.List.{List, [], _∷_}
+use mathlib.Core.Path.{_≡_, refl, sym, ap, ap₂, subst, _∙_}
+use lib.ListN.{length, getD, set, take}
+use lib.Seq.{getD-set-same, getD-set-other}
+use Rattle.alc.specs.Table.{Table}
+use Rattle.alc.specs.Claims.{Sided, Goal}
+use Rattle.alc.specs.Shown.{Shows, blank, tableOf}
+use Rattle.alc.specs.Verdict.{Verdict}
+use Rattle.alc.specs.declared.Claim.{Claim as Record}
+use Rattle.alc.specs.declared.Goal.{Goal as Records}
+use Rattle.room.specs.Stored.{stored, fetched, goalOf}
+use Rattle.room.proofs.Back.{stored-else, fetched-stored}
+use Rattle.steps.specs.Acting
+use Rattle.steps.specs.Acting.{tookOf, Ready, Current, from, Acts, Acted}
+use Rattle.steps.specs.declared.State.{State}
+use Rattle.steps.specs.declared.Act.{Act}
+use Rattle.derivation.specs.Waiting.{Waiting, Rest, Stands, After, Stepped}
+
+-- what is fetched depends on the places that are read alone
+fetched-same : (l m : List Record) (b n : ℕ) → ((i : ℕ) → i < n → getD m (b + i) blank ≡ getD l (b + i) blank) → fetched m b n ≡ fetched l b n
+unfolding fetched
+fetched-same l m b zero h = refl
+fetched-same l m b (suc n) h =
+    ap₂ (λ (t : List Record) (c : Record). set t n c) (fetched-same l m b n (λ i (g : i < n). h i (omega arith))) (h n (omega arith))
+
+-- the goals below place k wait on in a room that is the same below it
+stays : (l m : List Record) (counts counts′ : List ℕ) (k : ℕ) → ((i : ℕ) → i < k * 64 → getD m i blank ≡ getD l i blank) → ((j : ℕ) → j < k → getD counts′ j 0 ≡ getD counts j 0)
+    → ((j : ℕ) → getD counts j 0 ≤ 64) → (hs : List Goal) → length hs ≤ k → Waiting l counts hs → Waiting m counts′ hs
+unfolding Waiting
+stays l m counts counts′ k same same′ sizes [] h w = tt
+stays l m counts counts′ k same same′ sizes (x ∷ hs) h w =
+    let n = getD counts (length hs) 0 in
+    let few : n ≤ 64 = sizes (length hs) in
+    let e : fetched m (length hs * 64) n ≡ fetched l (length hs * 64) n = fetched-same l m (length hs * 64) n (λ i (g : i < n). same (length hs * 64 + i) (omega arith)) in (
+      ap (λ (c : ℕ). take c (fetched m (length hs * 64) c)) (same′ (length hs) (omega arith)) ∙ ap (take n) e ∙ w .0,
+      stays l m counts counts′ k same same′ sizes hs (omega arith) (w .1),
+    )
+
+-- a goal that is stored in the next place waits above the others
+pushed : (l : List Record) (counts : List ℕ) (g : Records) (x : Goal) (hs : List Goal) → length counts ≡ 16 → length hs < 16 → ((j : ℕ) → getD counts j 0 ≤ 64) → g .count ≤ 64
+    → g .count ≤ length (g .claims) → length hs * 64 + 64 ≤ length l → Shows g x → Waiting l counts hs
+    → Waiting (stored l (length hs * 64) (g .claims) (g .count)) (set counts (length hs) (g .count)) (x ∷ hs)
+unfolding Waiting
+pushed l counts g x hs slots few sizes small full fits sh w = (
+  ap (λ (c : ℕ). take c (fetched (stored l (length hs * 64) (g .claims) (g .count)) (length hs * 64) c)) (getD-set-same counts (length hs) (g .count) 0 (omega arith))
+      ∙ fetched-stored l (length hs * 64) (g .claims) (g .count) small full (omega arith)
+      ∙ sh,
+  stays l (stored l (length hs * 64) (g .claims) (g .count)) counts (set counts (length hs) (g .count)) (length hs)
+      (λ i (h : i < length hs * 64). stored-else l (length hs * 64) (g .claims) (g .count) i (λ j (q : j < g .count) (e : i ≡ length hs * 64 + j). omega arith))
+      (λ j (h : j < length hs). getD-set-other counts (length hs) j (g .count) 0 (λ (e : j ≡ length hs). omega arith)) sizes hs (omega arith) w,
+)
+
+-- and the last of them is what is fetched
+fetched-last : (l : List Record) (counts : List ℕ) (x : Goal) (hs : List Goal) (b n : ℕ) → b ≡ length hs * 64 → n ≡ getD counts (length hs) 0 → Waiting l counts (x ∷ hs)
+    → Shows (goalOf (fetched l b n) n) x
+unfolding Waiting
+fetched-last l counts x hs b n e f w = ap₂ (λ (c : ℕ) (k : ℕ). take k (fetched l c k)) e f ∙ w .0
+
+below : (l : List Record) (counts : List ℕ) (x : Goal) (hs : List Goal) → Waiting l counts (x ∷ hs) → Waiting l counts hs
+unfolding Waiting
+below l counts x hs w = w .1
+
+module _ (text ks xs ys : List ℕ) (entries : ℕ) (l : List Record) (s : State) (big : 1088 ≤ length l) (v : Ready text ks xs ys entries s) (a : Act) (d : Acted text ks xs ys entries s a) where
+  abbrev T : Table
+  T = tableOf ks xs ys entries
+
+  abbrev Leads : List Record → State → Type 0
+  Leads m r = (cs : List Sided) (w : Verdict) (gs : List Goal) → s .open ≡ length gs → Rest l (s .counts) gs → w ≡ from T cs text s gs → Acts T cs text s a gs → After T cs text w m r
+
+  -- a step leads from where the derivation stands to where it stands behind the line
+  led : (m : List Record) (r : State) → Leads m r → (cs : List Sided) (w : Verdict) → Stands T cs text w l s → After T cs text w m r
+  led m r go cs w st = go cs w (st .goals) (st .count) (st .waiting) (st .so) (d .acts cs (st .goals) (st .count) (st .current))
+
+  -- the verdict is not there yet
+  on : {cs : List Sided} {w : Verdict} {m : List Record} {r : State} → r .ended ≡ false → Stands T cs text w m r → After T cs text w m r
+  on e st = record { there = λ f. absurd (false≢true (sym e ∙ f)); stands = λ _. st }
+
+  pub rests : (a .kind ≡ 1 → ⊥) → (a .kind ≡ 2 → ⊥) → Stepped text ks xs ys entries l s l (a .next)
+  rests not1 not2 = record { ready = d .ready; after = led l (a .next) go }
+    where
+      go : Leads l (a .next)
+      go cs w gs o q so (Acting.stops _ k e h) = record { there = λ _. h ∙ sym so; stands = λ f. absurd (false≢true (sym f ∙ e)) }
+      go cs w (x ∷ hs) o q so (Acting.carries _ y _ k e p c sh h) =
+          on e (record { goals = y ∷ hs; count = p ∙ o; current = sh; waiting = subst (λ (n : List ℕ). Waiting l n hs) (sym c) q; so = so ∙ h })
+      go cs w (x ∷ hs) o q so (Acting.parts _ y z _ k e p b c sh sh′ h) = absurd (not1 k)
+      go cs w (x ∷ []) o q so (Acting.closes _ k e p h) = on e (record { goals = []; count = p; current = tt; waiting = tt; so = so ∙ h })
+      go cs w (x ∷ y ∷ hs) o q so (Acting.takes _ _ _ k e p b n c h) = absurd (not2 k)
+
+  pub stores : (m : List Record) → a .kind ≡ 1 → m ≡ stored l (a .base) (a .aside .claims) (a .aside .count) → Stepped text ks xs ys entries l s m (a .next)
+  stores m is1 e = record { ready = d .ready; after = led m (a .next) go }
+    where
+      held : (y : Goal) (hs : List Goal) → s .open ≡ suc (length hs) → a .next .ended ≡ false → a .next .open ≡ s .open + 1 → a .base ≡ length hs * 64
+          → a .next .counts ≡ set (s .counts) (length hs) (a .aside .count) → Shows (a .aside) y → Waiting l (s .counts) hs → Waiting m (a .next .counts) (y ∷ hs)
+      held y hs o f p b c sh q =
+          let fit = d .stores is1 in
+          subst (λ (t : List Record). Waiting t (a .next .counts) (y ∷ hs)) (sym (e ∙ ap (λ (n : ℕ). stored l n (a .aside .claims) (a .aside .count)) b))
+          (subst (λ (n : List ℕ). Waiting (stored l (length hs * 64) (a .aside .claims) (a .aside .count)) n (y ∷ hs)) (sym c)
+          (pushed l (s .counts) (a .aside) y hs (v .slots) (omega (arith, o, p, d .ready f .0 .few)) (v .sizes) (fit .0) (fit .1) (omega (arith, fit .2, b, big)) sh q))
+
+      go : Leads m (a .next)
+      go cs w gs o q so (Acting.stops _ k f h) = absurd (omega (arith, k, is1))
+      go cs w (x ∷ hs) o q so (Acting.carries _ y _ k f p c sh h) = absurd (omega (arith, k, is1))
+      go cs w (x ∷ hs) o q so (Acting.parts _ y z _ k f p b c sh sh′ h) =
+          on f (record { goals = y ∷ z ∷ hs; count = omega (arith, p, o); current = sh; waiting = held z hs o f p b c sh′ q; so = so ∙ h })
+      go cs w (x ∷ []) o q so (Acting.closes _ k f p h) = absurd (omega (arith, k, is1))
+      go cs w (x ∷ y ∷ hs) o q so (Acting.takes _ _ _ k f p b n c h) = absurd (omega (arith, k, is1))
+
+  pub fetches : (g : Records) → a .kind ≡ 2 → g ≡ goalOf (fetched l (a .base) (a .count)) (a .count) → Stepped text ks xs ys entries l s l (tookOf (a .next) g)
+  fetches g is2 e = record { ready = λ f. let r = d .ready f in (taken (r .0), r .1); after = led l (tookOf (a .next) g) go }
+    where
+      taken : Ready text ks xs ys entries (a .next) → Ready text ks xs ys entries (tookOf (a .next) g)
+      taken r = record {
+        columns = r .columns;
+        fits = r .fits;
+        going = r .going;
+        few = r .few;
+        small = omega (arith, ap (λ (h : Records). h .count) e, d .fetches is2 .0);
+        slots = r .slots;
+        sizes = r .sizes;
+        within = r .within;
+        counted = r .counted;
+      }
+
+      go : Leads l (tookOf (a .next) g)
+      go cs w gs o q so (Acting.stops _ k f h) = absurd (omega (arith, k, is2))
+      go cs w (x ∷ hs) o q so (Acting.carries _ y _ k f p c sh h) = absurd (omega (arith, k, is2))
+      go cs w (x ∷ hs) o q so (Acting.parts _ y z _ k f p b c sh sh′ h) = absurd (omega (arith, k, is2))
+      go cs w (x ∷ []) o q so (Acting.closes _ k f p h) = absurd (omega (arith, k, is2))
+      go cs w (x ∷ y ∷ hs) o q so (Acting.takes _ _ _ k f p b n c h) =
+          on f (record {
+            goals = y ∷ hs;
+            count = omega (arith, p, o);
+            current = subst (λ (t : Records). Shows t y) (sym e) (fetched-last l (s .counts) y hs (a .base) (a .count) b n q);
+            waiting = subst (λ (t : List ℕ). Waiting l t hs) (sym c) (below l (s .counts) y hs q);
+            so = so ∙ h;
+          })
+
+-- how many lines there can be, at the most
+abbrev pub left : List ℕ → State → ℕ
+left text s = cond (s .ended) 0 (suc (length text - s .at))
+
+pub fewer : (text : List ℕ) (s r : State) → s .ended ≡ false → (r .ended ≡ false → (s .at < r .at) × (r .at ≤ length text)) → left text r < left text s
+fewer text s r e h = rw e (go (r .ended) refl)
+  where
+    go : (b : Bool) → r .ended ≡ b → cond b 0 (suc (length text - r .at)) < suc (length text - s .at)
+    go true f = omega arith
+    go false f = let k = h f in omega (arith, k .0, k .1)
+
+-- the loop holds this of the room m and the state r: a line can be read, and the derivation stands there as it does from l and s on
+pub record Holds (text ks xs ys : List ℕ) (entries : ℕ) (l : List Record) (s : State) (m : List Record) (r : State) : Type 0 where
+  pub long : length m ≡ length l
+  pub ready : r .ended ≡ false → Ready text ks xs ys entries r
+  pub after : (cs : List Sided) (w : Verdict) → Stands (tableOf ks xs ys entries) cs text w l s → After (tableOf ks xs ys entries) cs text w m r
+
+module _ (text ks xs ys : List ℕ) (entries : ℕ) (l : List Record) (s : State) where
+  pub holds-first : Ready text ks xs ys entries s → Holds text ks xs ys entries l s l s
+  holds-first v = record { long = refl; ready = λ _. v; after = λ cs w st. record { there = λ e. absurd (false≢true (sym (v .going) ∙ e)); stands = λ _. st } }
+
+  pub holds-next : (m : List Record) (r : State) (m′ : List Record) (r′ : State) → r .ended ≡ false → length m′ ≡ length m → Holds text ks xs ys entries l s m r → Stepped text ks xs ys entries m r m′ r′
+      → Holds text ks xs ys entries l s m′ r′
+  holds-next m r m′ r′ e same h st = record { long = same ∙ h .long; ready = λ f. st .ready f .0; after = λ cs w q. st .after cs w (h .after cs w q .stands e) }

@@ -1,0 +1,118 @@
+// The loop over a derivation's lines. The goals that wait live in the room that the caller lends; what a line does is decided in `steps`, by
+// value, and the functions here only do it to the room.
+use alc::Answer;
+use alc::Claim;
+use alc::Goal;
+use steps::Act;
+use steps::State;
+ghost use mathlib.Core.Path.{_≡_};
+ghost use mathlib.Core.Bool.{not};
+ghost use mathlib.Core.List.{List};
+ghost use Prim.Native.Nat.{_≤_};
+ghost use lib.ListN.{length, replicate};
+ghost use Rattle.alc.specs.Claims.{Sided};
+ghost use Rattle.alc.specs.Shown.{answered, tableOf, blank};
+ghost use Rattle.alc.specs.Verdict.{Verdict};
+ghost use Rattle.steps.specs.Acting.{Ready, verdictIn};
+ghost use Rattle.derivation.specs.Waiting.{Stands, Stepped};
+
+// What the act asks of the room.
+fn kind_of(a: Act) -> u8
+    ensures { λ r. ⌜ r ≡ a .kind ⌝ }
+{
+    a.kind
+}
+
+// Where in the room.
+fn base_of(a: Act) -> usize
+    ensures { λ r. ⌜ r ≡ a .base ⌝ }
+{
+    a.base
+}
+
+// How many records are fetched.
+fn count_of(a: Act) -> usize
+    ensures { λ r. ⌜ r ≡ a .count ⌝ }
+{
+    a.count
+}
+
+// The goal that is put aside.
+fn aside_of(a: Act) -> Goal
+    ensures { λ r. ⌜ r ≡ a .aside ⌝ }
+{
+    a.aside
+}
+
+// The state behind the line.
+fn next_of(a: Act) -> State
+    ensures { λ r. ⌜ r ≡ a .next ⌝ }
+{
+    a.next
+}
+
+// Whether lines are still read.
+fn going(s: State) -> bool
+    ensures { λ r. ⌜ r ≡ not (s .ended) ⌝ }
+{
+    !s.ended
+}
+
+// The answer of a state that has come to its verdict.
+fn answer_of(s: State) -> Answer
+    ensures { λ r. ⌜ answered r ≡ verdictIn s ⌝ }
+{
+    let k = s.number;
+    if k == 0 {
+        return Answer::Proved(s.lines);
+    }
+    Answer::Refused(k, s.lines)
+}
+
+// One line, and what it asks of the room.
+fn step(
+    room: &mut [Claim],
+    text: &[u8],
+    kinds: &[u8],
+    firsts: &[u8],
+    seconds: &[u8],
+    entries: usize,
+    s: State,
+) -> State
+    requires { ⌜ (1088 ≤ length (now room)) × Ready (now text) (now kinds) (now firsts) (now seconds) entries s ⌝ }
+    ensures { λ r. ⌜ Stepped (now (text .entry)) (now (kinds .entry)) (now (firsts .entry)) (now (seconds .entry)) entries (now (room .entry)) s (now (room .exit)) r ⌝ }
+{
+    let a = steps::act_at(text, kinds, firsts, seconds, entries, s);
+    let k = kind_of(a);
+    let next = next_of(a);
+    if k == 1 {
+        room::store(room, base_of(a), aside_of(a));
+        return next;
+    }
+    if k == 2 {
+        let goal = room::fetch(room, base_of(a), count_of(a));
+        return steps::took(next, goal);
+    }
+    next
+}
+
+// Judges the lines from the state s on as steps. The answer is the verdict from there on, and every record of the room is blank afterwards.
+pub fn judge_steps(
+    room: &mut [Claim],
+    text: &[u8],
+    kinds: &[u8],
+    firsts: &[u8],
+    seconds: &[u8],
+    entries: usize,
+    s: State,
+) -> Answer
+    requires { ⌜ (1088 ≤ length (now room)) × Ready (now text) (now kinds) (now firsts) (now seconds) entries s ⌝ }
+    ensures { λ r. ⌜ ((cs : List Sided) (v : Verdict) → Stands (tableOf (now (kinds .entry)) (now (firsts .entry)) (now (seconds .entry)) entries) cs (now (text .entry)) v (now (room .entry)) s → answered r ≡ v) × (now (room .exit) ≡ replicate (length (now (room .entry))) blank) ⌝ }
+{
+    let mut cur = s;
+    while going(cur) {
+        cur = step(room, text, kinds, firsts, seconds, entries, cur);
+    }
+    room::blank_all(room);
+    answer_of(cur)
+}

@@ -1,0 +1,2 @@
+-- A table line's elements from those of its parts.
+pub mod Extent

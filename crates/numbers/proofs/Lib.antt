@@ -1,0 +1,3 @@
+-- `Digits` of a number read digit by digit, `Fields` of the numbers behind a word.
+pub mod Digits
+pub mod Fields

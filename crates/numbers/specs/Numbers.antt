@@ -1,0 +1,28 @@
+-- What the functions find of the numbers of a line, said by the definitions of `Text`.
+use Prim.Native.Nat.{ℕ, _+_}
+use mathlib.Core.List.{List, []}
+use mathlib.Core.Bool.{Bool, true, false, _&&_}
+use lib.ListN.{length, getD}
+use lib.Dec.{eqb}
+use Rattle.lines.specs.Text.{value, isNumber, numbered}
+use Rattle.lines.specs.Walk.{fieldOf, lineOf, ended, fieldsBehind}
+use Rattle.numbers.specs.declared.Num.{Num}
+use Rattle.numbers.specs.declared.Num.the-variants.{Is, Not}
+use Rattle.numbers.specs.declared.Nums.{Nums}
+use Rattle.numbers.specs.declared.Nums.the-variants.{Are, Not as NotAll}
+
+abbrev pub numBy : Bool → ℕ → ℕ → Num
+numBy true v next = Is v next
+numBy false v next = Not
+
+-- the field that xs begins with as a number, and where it ends, if xs begins at `at`
+unfoldable pub numberIn : ℕ → List ℕ → Num
+numberIn at xs = numBy (isNumber (fieldOf xs)) (value (fieldOf xs)) (at + length (fieldOf xs))
+
+abbrev pub numsBy : Bool → List (List ℕ) → ℕ → Nums
+numsBy true fs next = Are (value (getD fs 0 [])) (value (getD fs 1 [])) (value (getD fs 2 [])) (value (getD fs 3 [])) next
+numsBy false fs next = NotAll
+
+-- that line, where a field ends at `at`: n numbers follow and then byte 10; with the position behind it
+unfoldable pub numbersIn : ℕ → ℕ → List ℕ → Nums
+numbersIn at n xs = numsBy (ended xs && (eqb (length (fieldOf xs)) 0 && numbered n (fieldsBehind xs))) (fieldsBehind xs) (at + length (lineOf xs) + 1)

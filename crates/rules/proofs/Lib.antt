@@ -1,0 +1,2 @@
+-- The code's plan is the table's row.
+pub mod Plans

@@ -1,0 +1,2 @@
+-- The walk over the lines of the table.
+pub mod TableWalk

@@ -1,0 +1,2 @@
+-- A claim's truth, read off the sets.
+pub mod Truth

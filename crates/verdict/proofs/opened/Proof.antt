@@ -1,0 +1,154 @@
+-- `verdict::opened` meets its contract: each part of the dossier is judged where the part before it left off. Assumes nothing.
+use Prim.Native.Nat.{ℕ, _≤_}
+use mathlib.Core.List.{List, [], _∷_, map}
+use mathlib.Core.Bool.{true}
+use mathlib.Core.Path.{_≡_, refl, sym, ap, subst, _∙_}
+use native.Mathlib.Omega.{arith}
+use native.Mathlib.Numerals.{add-one}
+use lib.ListN.{length, drop}
+use denote.Ref.{now}
+use borrow.Author.Needs.{needs}
+use Rattle.lines.specs.Text.{linesOf}
+use Rattle.alc.specs.Lists.{All, every}
+use Rattle.alc.specs.Ranges.{inRange}
+use Rattle.alc.specs.Claims.{Sided, claim, claimFields}
+use Rattle.alc.specs.Table.{Table}
+use Rattle.alc.specs.Shown.{tableOf, sidedOf, records}
+use Rattle.alc.specs.Verdict.{refused, judge as judgeFrom, begin, verdict}
+use Rattle.alc.proofs.ShownLaws.{table-length, all-back}
+use Rattle.heading.specs.Parts.{inClaims, TableRead, ClaimsRead}
+use Rattle.verdict.specs.Opened.{followingOf}
+use Rattle.verdict.proofs.Begins.{verdict-narrow, verdict-long, verdict-short, opens-decided, opens-following}
+use Rattle.verdict.proofs.opened.Statement.{statement}
+use Rattle.verdict.proofs.opened.Tie as tie
+
+returns : tie.Need-returns
+returns c = opens-decided _ _ _ _ (c .decided .ensures) (sym (verdict-narrow _ _ (c .before .if1 .taken)))
+
+returns-2 : tie.Need-returns-2
+returns-2 c = opens-decided _ _ _ _ (c .decided2 .ensures) (sym (verdict-long _ _ (c .before .before .if1 .left) (c .before .if2 .taken)))
+
+-- behind the table
+abbrev S : tie.After-read-table → tie.Start
+S t = t .before .before .before .before .before .before .before
+
+abbrev text : tie.After-read-table → List ℕ
+text t = now (S t .args .text)
+
+abbrev ks : tie.After-read-table → List ℕ
+ks t = t .read-table .last .1 .0
+
+abbrev xs : tie.After-read-table → List ℕ
+xs t = t .read-table .last .1 .1 .0
+
+abbrev ys : tie.After-read-table → List ℕ
+ys t = t .read-table .last .1 .1 .1 .0
+
+table : (t : tie.After-read-table) → TableRead (text t) (ks t) (xs t) (ys t) (t .read-table .result)
+table t = t .read-table .ensures
+
+short : (t : tie.After-read-table) → length (text t) ≤ 65535
+short t = t .before .before .before .before .if2 .left
+
+wide : (t : tie.After-read-table) → 1088 ≤ S t .args .records
+wide t = t .before .before .before .before .before .if1 .left
+
+begun : (t : tie.After-read-table) → verdict (S t .args .records) (text t) ≡ judgeFrom 0 begin (linesOf (text t))
+begun t = verdict-short (S t .args .records) (text t) (wide t) (short t)
+
+returns-3 : tie.Need-returns-3
+returns-3 c =
+    let t = c .before .before .before .before in
+    let n = t .read-table .result in
+    opens-decided _ _ _ _ (c .decided3 .ensures) (sym (begun t ∙ table t .refusal (c .before .before .if3 .taken) ∙ ap (refused (n .number)) (sym (add-one (n .count)))))
+
+read-claims-requires : tie.Need-read-claims-requires
+read-claims-requires c κs = let t = table (c .before .before) in (t .within, t .counted, t .columns .few)
+
+-- behind the claims
+abbrev T : tie.After-read-claims → tie.After-read-table
+T k = k .before .before .before
+
+abbrev lines : tie.After-read-claims → Table
+lines k = tableOf (ks (T k)) (xs (T k)) (ys (T k)) (T k .read-table .result .count)
+
+long : (k : tie.After-read-claims) → length (lines k) ≡ T k .read-table .result .count
+long k = table-length (ks (T k)) (xs (T k)) (ys (T k)) (T k .read-table .result .count)
+
+claims : (k : tie.After-read-claims) → ClaimsRead (text (T k)) (lines k) (T k .read-table .result .at) (k .read-claims .result)
+claims k = k .read-claims .ensures (lines k) (long k)
+
+headed : (k : tie.After-read-claims) → verdict (S (T k) .args .records) (text (T k)) ≡ judgeFrom (length (lines k)) (inClaims (lines k) []) (linesOf (drop (T k .read-table .result .at) (text (T k))))
+headed k =
+    begun (T k)
+    ∙ table (T k) .left (k .before .if3 .left)
+    ∙ ap (λ (n : ℕ). judgeFrom n (inClaims (lines k) []) (linesOf (drop (T k .read-table .result .at) (text (T k))))) (sym (long k))
+
+ranged : (k : tie.After-read-claims) → All (λ s. every (inRange (T k .read-table .result .count) 0) (claimFields (claim s)) ≡ true) (map sidedOf (records (k .read-claims .result .claims)))
+ranged k =
+    let h = claims k in
+    subst (λ (l : List Sided). All (λ s. every (inRange (T k .read-table .result .count) 0) (claimFields (claim s)) ≡ true) l) (sym (ap (map sidedOf) (h .shown) ∙ all-back (h .cs)))
+    (subst (λ (n : ℕ). All (λ s. every (inRange n 0) (claimFields (claim s)) ≡ true) (h .cs)) (long k) (h .ranges))
+
+add-t18 : tie.Need-add-t18
+add-t18 c = let k = c .before .before .before in omega (arith, claims k .within, claims k .counted, short (T k))
+
+returns-4 : tie.Need-returns-4
+returns-4 c =
+    let k = c .before .before .before .before in
+    let n = k .read-claims .result in
+    opens-decided _ _ _ _ (c .decided4 .ensures) (sym (headed k ∙ claims k .refusal (c .before .before .if4 .taken) ∙ ap (refused (n .number)) (sym (add-one (n .lines)))))
+
+-- the claims of a model
+abbrev M : tie.After-struct-known5 → tie.After-read-claims
+M c = c .before .before .before .before
+
+judge-model-requires : tie.Need-judge-model-requires
+judge-model-requires c κs =
+    let k = M (c .before .before .before .before) in
+    let h = claims k in
+    record {
+      within = h .within;
+      counted = h .counted;
+      columns = table (T k) .columns;
+      few = h .few;
+      ranges = ranged k;
+    }
+
+returns-5 : tie.Need-returns-5
+returns-5 c =
+    let f = c .before .before .before .before .before .before in
+    let k = M f in
+    let h = claims k in
+    opens-decided _ _ _ _ (c .decided5 .ensures) (c .before .judge-model .ensures (h .cs) (h .shown) ∙ sym (headed k ∙ h .model (f .before .before .if4 .left) (c .before .before .before .before .before .if5 .taken)))
+
+returns-6 : tie.Need-returns-6
+returns-6 c =
+    let f = c .before .before .before in
+    let k = M f in
+    let h = claims k in
+    opens-following _ _ _ _ (ks (T k)) (xs (T k)) (ys (T k)) _ _ _ (h .cs) (c .following .ensures .0 ∙ ap (followingOf _ (ks (T k)) (xs (T k)) (ys (T k))) (c .before .begun .ensures)) (wide (T k)) (table (T k) .columns) (c .following .ensures .1) (h .few) (h .shown) (h .within)
+    (h .counted) (headed k ∙ h .proof (f .before .before .if4 .left) (c .before .before .if5 .left))
+
+pub opened-spec : {M : Type 1} → statement M
+opened-spec =
+    tie.close
+    (tie.spec
+    (λ c κs. search needs)
+    returns
+    (λ c κs. search needs)
+    returns-2
+    (λ c κs. search needs)
+    (λ c. search needs)
+    (λ c κs. search needs)
+    returns-3
+    read-claims-requires
+    add-t18
+    (λ c κs. search needs)
+    returns-4
+    judge-model-requires
+    (λ c κs. search needs)
+    returns-5
+    (λ c κs. search needs)
+    (λ c κs. search needs)
+    returns-6)
