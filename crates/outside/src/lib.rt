@@ -2,42 +2,33 @@
 use alc::Answer;
 ghost use mathlib.Core.Path.{_≡_};
 ghost use Rattle.alc.specs.Shown.{answered};
-ghost use Rattle.alc.specs.Verdict.{verdict, number, line};
-ghost use Rattle.outside.specs.Told.{told};
+ghost use Rattle.alc.specs.Verdict.{verdict};
+ghost use Rattle.outside.specs.Told.{packed, packedBy};
 
-// Judges a text. The word comes back as a number, 0 `proved`, 1 `refuted`, 2 `refused`; the verdict's number and line are written where the
-// caller says.
+// Judges a text. The verdict comes back as one number: 8 bits of the word (0 `proved`, 1 `refuted`, 2 `refused`), 8 of the number and 32 of
+// the line, from the lowest up.
 #[no_mangle]
-pub extern "C" fn outside_judge(text: &[u8], no: &mut u8, at: &mut usize) -> u8
-    ensures { λ r. ⌜ r ≡ told (verdict 1088 (now (text .entry))) ⌝ }
-    ensures { λ _. ⌜ now (no .exit) ≡ number (verdict 1088 (now (text .entry))) ⌝ }
-    ensures { λ _. ⌜ now (at .exit) ≡ line (verdict 1088 (now (text .entry))) ⌝ }
+pub extern "C" fn outside_judge(text: &[u8]) -> u64
+    ensures { λ r. ⌜ r ≡ packed (verdict 1088 (now (text .entry))) ⌝ }
 {
     let answer = verdict::judge(text);
-    tell(answer, no, at)
+    pack_answer(answer)
 }
 
-// An answer as three numbers.
-fn tell(answer: Answer, no: &mut u8, at: &mut usize) -> u8
-    ensures { λ r. ⌜ r ≡ told (answered answer) ⌝ }
-    ensures { λ _. ⌜ now (no .exit) ≡ number (answered answer) ⌝ }
-    ensures { λ _. ⌜ now (at .exit) ≡ line (answered answer) ⌝ }
+// An answer as one number.
+fn pack_answer(answer: Answer) -> u64
+    ensures { λ r. ⌜ r ≡ packed (answered answer) ⌝ }
 {
     match answer {
-        Answer::Proved(n) => {
-            *no = 0;
-            *at = n;
-            0
-        }
-        Answer::Refuted(n) => {
-            *no = 0;
-            *at = n;
-            1
-        }
-        Answer::Refused(k, n) => {
-            *no = k;
-            *at = n;
-            2
-        }
+        Answer::Proved(n) => pack(0, 0, n),
+        Answer::Refuted(n) => pack(1, 0, n),
+        Answer::Refused(k, n) => pack(2, k, n),
     }
+}
+
+// A word, a number and a line as one number.
+fn pack(word: u8, number: u8, line: usize) -> u64
+    ensures { λ r. ⌜ r ≡ packedBy word number line ⌝ }
+{
+    (line % 4294967296) as u64 * 65536 + number as u64 * 256 + word as u64
 }

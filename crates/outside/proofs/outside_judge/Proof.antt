@@ -1,23 +1,19 @@
--- `outside::outside_judge` meets its contract: what is told of the answer is told of the verdict that the answer is.
+-- `outside::outside_judge` meets its contract: what the answer is packed to is what the verdict that it is is packed to.
 -- Assumes nothing.
 use borrow.Author.Needs.{needs}
 use mathlib.Core.Path.{ap, _∙_}
-use Rattle.alc.specs.Verdict.{number, line}
-use Rattle.outside.specs.Told.{told}
+use Rattle.outside.specs.Told.{packed}
 use Rattle.outside.proofs.outside_judge.Statement.{statement}
 use Rattle.outside.proofs.outside_judge.Tie as tie
 
 judge-requires : tie.Need-judge-requires
 judge-requires c κs = search needs
 
-tell-requires : tie.Need-tell-requires
-tell-requires c κs = search needs
+pack-answer-requires : tie.Need-pack-answer-requires
+pack-answer-requires c κs = search needs
 
 returns : tie.Need-returns
-returns c =
-    let said = c .tell .ensures in
-    let judged = c .before .before .before .judge .ensures in
-    (said .0 ∙ ap told judged, (said .1 .0 ∙ ap number judged, said .1 .1 ∙ ap line judged))
+returns c = c .pack-answer .ensures ∙ ap packed (c .before .judge .ensures)
 
 pub outside-judge-spec : {M : Type 1} → statement M
-outside-judge-spec = tie.close (tie.spec judge-requires tell-requires returns)
+outside-judge-spec = tie.close (tie.spec judge-requires pack-answer-requires returns)

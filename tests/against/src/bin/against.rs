@@ -32,22 +32,22 @@ mod proved {
 
     #[link(name = "outside", kind = "static")]
     extern "C" {
-        fn outside_judge(text: *const u8, length: usize, no: *mut u8, at: *mut usize) -> u8;
+        fn outside_judge(text: *const u8, length: usize) -> u64;
     }
 
     /// The library's judge has a room of its own, of the smallest length that will do; it cannot be lent one.
     pub const LENT: bool = false;
 
     pub fn judge(text: &[u8]) -> Verdict {
-        let mut number = 0;
-        let mut line = 0;
-        // The slice is a pointer and a length, and the two results are written to locals that nothing else refers to.
-        let word = unsafe { outside_judge(text.as_ptr(), text.len(), &mut number, &mut line) };
-        let word = match word {
+        // A slice is handed over as a pointer and a length.
+        let packed = unsafe { outside_judge(text.as_ptr(), text.len()) };
+        let word = match packed & 0xff {
             0 => Word::Proved,
             1 => Word::Refuted,
             _ => Word::Refused,
         };
+        let number = (packed >> 8) as u8;
+        let line = (packed >> 16) as usize;
         Verdict { word, number, line }
     }
 }
