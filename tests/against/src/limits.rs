@@ -165,6 +165,19 @@ fn steps(random: &mut Random) -> Lines {
     lines
 }
 
+/// A step that is a little wrong now and then, so that more than one row refuses it at a limit.
+fn nearly(random: &mut Random, step: &str) -> String {
+    if !random.percent(25) {
+        return step.to_string();
+    }
+    let mut fields: Vec<String> = step.split('\t').map(str::to_string).collect();
+    let at = random.within(1, fields.len() - 1);
+    fields[at] = random
+        .pick(&["0", "1", "2", "3", "4", "5", "6", "7", "8", "64"])
+        .to_string();
+    fields.join("\t")
+}
+
 /// A goal of 62 to 64 claims, and steps that add to it.
 fn full_goal(random: &mut Random) -> Lines {
     let table = [
@@ -211,7 +224,7 @@ fn full_goal(random: &mut Random) -> Lines {
             "all-r\t0\t7\t4",
             "id\t0\t0",
         ]);
-        lines.push(step.to_string());
+        lines.push(nearly(random, step));
     }
     lines
 }
@@ -238,7 +251,10 @@ fn waiting(random: &mut Random) -> Lines {
     lines.push("proof".to_string());
     let word = if right { "and-r" } else { "or-l" };
     for i in (1..=depth).rev() {
-        lines.push(format!("{word}\t0\t{i}"));
+        // A wrong step stands where the most goals wait.
+        let step = format!("{word}\t0\t{i}");
+        let near = i + 16 <= depth;
+        lines.push(if near { nearly(random, &step) } else { step });
     }
     // With one goal less or more than are open.
     let off = random.below(8);
