@@ -41,7 +41,7 @@ fn wide_table(random: &mut Random, lines: usize) -> Vec<Concept> {
     table
 }
 
-/// A line that is pushed past a limit: good, with a number out of range, a repeat, or one that is not a line of the kind at all.
+/// Pushes a line past a limit: a good one, one with a number out of range, or one that is not well formed there.
 fn past(random: &mut Random, good: &str, range: &str, bad: &str, lines: &mut Lines) {
     let line = match random.below(5) {
         0 => range,
@@ -70,7 +70,7 @@ fn table(random: &mut Random) -> Lines {
     finish(random, lines)
 }
 
-/// Goes on with a claim or two, and a model or no proof at all.
+/// Goes on with a model, with a derivation, or with neither.
 fn finish(random: &mut Random, mut lines: Lines) -> Lines {
     match random.below(3) {
         0 => lines.extend(["model", "size\t32", "name\t0\t31"].map(str::to_string)),
@@ -116,40 +116,42 @@ fn claims(random: &mut Random) -> Lines {
     finish(random, lines)
 }
 
-/// A derivation of so many steps: chains of `not` are taken apart, and the last step closes. Where it closes before that, the rest are steps with
-/// no goal open.
+/// A derivation of so many steps, at most 1,271: chains of `not` are taken apart, and the last step closes the goal.
 pub fn long(steps: usize, more: &[(Side, Claim)]) -> Lines {
     let mut table = vec![Concept::Atom(0)];
     table.extend((0..255).map(Concept::Not));
-    // An even number of turns brings a claim back to its side as the atom; four chains are enough for all steps.
     let mut claims: Vec<_> = (1..=5).map(|a| (Left, Claim::Is(a, 254))).collect();
     claims.extend([(Left, Claim::Is(0, 0)), (Right, Claim::Is(0, 0))]);
     claims.extend_from_slice(more);
     let mut lines = heading(&table, &claims);
     lines.push("proof".to_string());
-    let mut left = steps.saturating_sub(1);
+    let mut left = steps - 1;
     for a in 1..=5 {
         let mut i = 254;
         while i > 0 && left > 0 {
-            let side = if i % 2 == 0 { "l" } else { "r" };
-            lines.push(format!("not-{side}\t{a}\t{i}"));
+            lines.push(turn(a, i));
             i -= 1;
             left -= 1;
         }
     }
-    if steps > 0 {
-        lines.push("id\t0\t0".to_string());
-    }
+    lines.push("id\t0\t0".to_string());
     lines
+}
+
+/// The step that takes apart entry i of a chain that began on the left with entry 254: each turn brings it to the other side.
+fn turn(a: usize, i: usize) -> String {
+    let side = if i % 2 == 1 { "r" } else { "l" };
+    format!("not-{side}\t{a}\t{i}")
 }
 
 fn steps(random: &mut Random) -> Lines {
     let count = random.within(1_023, 1_025);
     let mut lines = long(count.min(1_024), &[]);
     if random.percent(30) {
-        // Left open, so that the last step is one more that could be made.
+        // The goal stays open: the last step is one more turn, of the fifth chain.
         lines.pop();
-        lines.push("not-l\t5\t250".to_string());
+        let turned = count.min(1_024) - 1;
+        lines.push(turn(5, 254 - (turned - 4 * 254)));
     }
     if count == 1_025 {
         let bad = random.pick(&[
@@ -229,7 +231,7 @@ fn full_goal(random: &mut Random) -> Lines {
     lines
 }
 
-/// Goals put aside, 14 to 18 of them.
+/// Goals put aside, 14 to 18 of them; then all are closed, or one too few, or one too many.
 fn waiting(random: &mut Random) -> Lines {
     let depth = random.within(14, 18);
     let mut table = vec![Concept::Atom(0)];
@@ -256,9 +258,7 @@ fn waiting(random: &mut Random) -> Lines {
         let near = i + 16 <= depth;
         lines.push(if near { nearly(random, &step) } else { step });
     }
-    // With one goal less or more than are open.
-    let off = random.below(8);
-    let closing = match off {
+    let closing = match random.below(8) {
         0 => depth,
         1 => depth + 2,
         _ => depth + 1,
