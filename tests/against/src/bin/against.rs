@@ -30,17 +30,18 @@ mod proved {
 
     use super::{Verdict, Word};
 
+    /// A claim record as the library has it: seven numbers of a byte each.
+    pub type Record = [u8; 7];
+
     #[link(name = "outside", kind = "static")]
     extern "C" {
-        fn outside_judge(text: *const u8, length: usize) -> u64;
+        fn outside_judge(room: *mut Record, records: usize, text: *const u8, length: usize) -> u64;
     }
 
-    /// The library's judge has a room of its own, of the smallest length that will do; it cannot be lent one.
-    pub const LENT: bool = false;
-
-    pub fn judge(text: &[u8]) -> Verdict {
+    pub fn judge(room: &mut [Record], text: &[u8]) -> Verdict {
         // A slice is handed over as a pointer and a length.
-        let packed = unsafe { outside_judge(text.as_ptr(), text.len()) };
+        let packed =
+            unsafe { outside_judge(room.as_mut_ptr(), room.len(), text.as_ptr(), text.len()) };
         let word = match packed & 0xff {
             0 => Word::Proved,
             1 => Word::Refuted,
@@ -50,6 +51,21 @@ mod proved {
         let line = (packed >> 16) as usize;
         Verdict { word, number, line }
     }
+}
+
+/// What the proved judge says of a text when it is lent a room of so many dirty records. Every record must be blank afterwards, and those on
+/// either side of the room as they were.
+fn judge_in(room: usize, dirt: u8, text: &[u8]) -> Result<Verdict, &'static str> {
+    let dirty = [dirt; 7];
+    let mut records = vec![dirty; room + 2];
+    let verdict = proved::judge(&mut records[1..=room], text);
+    if records[0] != dirty || records[room + 1] != dirty {
+        return Err("it wrote beside the room");
+    }
+    if records[1..=room].iter().any(|&record| record != [0; 7]) {
+        return Err("it left a record in the room");
+    }
+    Ok(verdict)
 }
 
 /// Counts of what a run has met.
@@ -96,7 +112,7 @@ impl Counts {
 /// The dossier at a place in the run of a seed, and the length of the room.
 fn dossier(seed: u64, place: u64) -> (Vec<u8>, usize) {
     let random = &mut Random::new(seed, place);
-    let room = if proved::LENT && random.percent(20) {
+    let room = if random.percent(10) {
         random.pick(&[0, 1, 63, ROOM - 1, ROOM, ROOM + 1, ROOM + 2, 1_100, 2_048])
     } else {
         ROOM
@@ -124,9 +140,9 @@ fn run(seed: u64, first: u64) -> Counts {
     for place in (first..EACH).step_by(THREADS as usize) {
         let (text, room) = dossier(seed, place);
         let ours = judge(room, &text);
-        let theirs = proved::judge(&text);
+        let theirs = judge_in(room, place as u8 | 1, &text);
         counts.meet(ours, &text);
-        if ours != theirs {
+        if theirs != Ok(ours) {
             counts.differences += 1;
             if counts.differences <= SHOWN {
                 differ(
@@ -142,7 +158,7 @@ fn run(seed: u64, first: u64) -> Counts {
 }
 
 /// Writes a dossier on which the judges differ to a file, and what they say of it to standard output.
-fn differ(what: &str, text: &[u8], ours: Verdict, theirs: Verdict) {
+fn differ(what: &str, text: &[u8], ours: Verdict, theirs: Result<Verdict, &str>) {
     let name: String = what
         .chars()
         .map(|c| if c.is_ascii_alphanumeric() { c } else { '-' })
@@ -152,7 +168,7 @@ fn differ(what: &str, text: &[u8], ours: Verdict, theirs: Verdict) {
     let show = |v: Verdict| format!("{} {} {}", v.word.text(), v.number, v.line);
     println!(
         "against: {what}: proved judge: {}; this one: {}",
-        show(theirs),
+        theirs.map_or_else(str::to_string, show),
         show(ours)
     );
     match written {
@@ -203,8 +219,8 @@ fn known() -> u64 {
         let text = lines.replace(' ', "\t").replace(',', "\n").into_bytes();
         let expected = Verdict { word, number, line };
         let ours = judge(ROOM, &text);
-        let theirs = proved::judge(&text);
-        if ours != expected || theirs != expected {
+        let theirs = judge_in(ROOM, 1, &text);
+        if ours != expected || theirs != Ok(expected) {
             wrong += 1;
             differ(name, &text, ours, theirs);
         }
@@ -265,9 +281,7 @@ fn main() -> ExitCode {
     for number in 1..15 {
         let count = counts.refused[number];
         line.push_str(&format!(" {number}:{count}"));
-        if number != 14 || proved::LENT {
-            enough(format!("refused {number}"), count);
-        }
+        enough(format!("refused {number}"), count);
     }
     for (word, count) in STEP_WORDS.iter().zip(counts.steps) {
         enough(format!("a proved derivation with {word}"), count);
