@@ -13,11 +13,13 @@ use Rattle.alc.specs.Shown.{blank}
 use Rattle.alc.specs.Verdict.{verdict}
 use Rattle.room.proofs.Claims.{claim}
 use Rattle.room.proofs.Says.{Con, Fun!, fun, Knows, knows}
-use Rattle.room.proofs.Walk.{Body!, Asks!, proved, same-len, tts, ref, refS, _▸_, _▹_, clears, returns, lends, calls, backs}
+use Rattle.room.proofs.Walk.{Body!, Asks!, proved, same-len, tts, ref, _▸_, _▹_, clears, returns, lends, calls, backs}
 use Rattle.verdict.proofs.judge as J
 use Rattle.outside.specs.Told.{packed}
 use Rattle.outside.proofs as P
-use Rattle.outside.proofs.Lent.{byte, roomP, textP, lent, judge}
+use Rattle.derivation.proofs.Tables.{τ}
+use Rattle.verdict.proofs.Tables.{judge}
+use Rattle.outside.proofs.Lent.{lent}
 use Rattle.outside.proofs.outside_judge.Key.{name}
 use Rattle.outside.proofs.outside_judge.Statement.{statement}
 use Rattle.outside.proofs.outside_judge.Code as code
@@ -26,7 +28,7 @@ abbrev says : Con
 says = record {
   name = "outside::outside_judge";
   n = 2;
-  ps = roomP ∷ textP ∷ [];
+  ps = judge .ps;
   r = rNum w64;
   pre = λ κs a. [];
   post = λ κs a z e. (z ≡ packed (verdict (length (a .0 .now)) (a .1 .0 .now))) ∷ (e .0 .now ≡ replicate (length (a .0 .now)) blank) ∷ [];
@@ -42,7 +44,7 @@ module _ (w : World) (judges : Knows (fun judge) w code.env) (packs : Knows pack
   unfoldable body : Body! says 1 code.function w code.env
   body κs qs bs =
       lends (claim .R) 1 4 5 0 2 (named 0) (lease (κs .0) (qs .0)) (λ x. x) (λ x. x) (λ x. x) (tts 6) (search lent) (search lent) (
-      calls (fun judge) judges 3 (2 ∷ 1 ∷ []) (record { pos = 5; ty = ref (claim .R) erased; ref = λ x. x }, (record { pos = 2; ty = refS byte (named 1); ref = λ x. x }, tt)) (search lent) (search lent) ▸
+      calls (fun judge) judges 3 (2 ∷ 1 ∷ []) (record { pos = 5; ty = ref (claim .R) erased; ref = λ x. x }, (record { pos = 2; ty = τ 1; ref = λ x. x }, tt)) (search lent) (search lent) ▸
       backs (claim .R) 5 1 0 2 (named 0) (lease (κs .0) (qs .0)) (λ x. x) (λ x. x) (search lent) ▹
       calls pack packs 0 [] (record { pos = 3; st = []; d = 0; at = λ x. x }, tt) (search lent) (search lent) ▸
       clears (3 ∷ []) (search lent) (
