@@ -212,17 +212,28 @@ const KNOWN: [(&str, &str, Word, u8, usize); 18] = {
     ]
 };
 
-/// How many of the known dossiers get another verdict from a judge.
+/// How many of the known dossiers get another verdict from a judge, in rooms of one record too few, of just enough and of one more, full of
+/// records that are not blank.
 fn known() -> u64 {
     let mut wrong = 0;
     for (name, lines, word, number, line) in KNOWN {
         let text = lines.replace(' ', "\t").replace(',', "\n").into_bytes();
-        let expected = Verdict { word, number, line };
-        let ours = judge(ROOM, &text);
-        let theirs = judge_in(ROOM, 1, &text);
-        if ours != expected || theirs != Ok(expected) {
-            wrong += 1;
-            differ(name, &text, ours, theirs);
+        for room in [ROOM - 1, ROOM, ROOM + 1] {
+            let expected = if room < ROOM {
+                Verdict {
+                    word: Word::Refused,
+                    number: 14,
+                    line: 0,
+                }
+            } else {
+                Verdict { word, number, line }
+            };
+            let ours = judge(room, &text);
+            let theirs = judge_in(room, 1, &text);
+            if ours != expected || theirs != Ok(expected) {
+                wrong += 1;
+                differ(&format!("{name}, room {room}"), &text, ours, theirs);
+            }
         }
     }
     wrong
