@@ -59,3 +59,9 @@ answer-of = record { name = P.answer_of.Symbol.name; n = 0; ps = P.answer_of.Kin
 
 pub answer-of! : (w : World) (γ : Env) → γ P.answer_of.Symbol.name ≡ P.answer_of.Symbol.routine → Knows answer-of w γ
 answer-of! w γ e = P.answer_of.Reads.known w γ P.answer_of.Symbol.name P.answer_of.Symbol.routine e (P.answer_of.Met.met (w .𝓤) (w .H) (w .𝓜) (w .𝓖) (w .𝓡))
+
+abbrev pub passes : Fun!
+passes = record { name = P.passes.Symbol.name; n = 0; ps = P.passes.Kinds.ps; r = P.passes.Kinds.r; P = P.passes.Reads.Asked; Q = P.passes.Reads.Learnt }
+
+pub passes! : (w : World) (γ : Env) → γ P.passes.Symbol.name ≡ P.passes.Symbol.routine → Knows passes w γ
+passes! w γ e = P.passes.Reads.known w γ P.passes.Symbol.name P.passes.Symbol.routine e (P.passes.Met.met (w .𝓤) (w .H) (w .𝓜) (w .𝓖) (w .𝓡))

@@ -19,8 +19,7 @@ use borrow.Kind.MutSlice.{pMutS}
 use borrow.Kind.ShrSlice.{pShrS, spares-sslice}
 use borrow.Kind.ShrRef.{Spares}
 use borrow.Rule.Local as Local
-use borrow.Rule.Slice.Mut.{mslice}
-use borrow.Rule.Slice.Relend.{mslice-owed}
+use borrow.Rule.Slice.Reshare.{mslice-owedS}
 use borrow.Rule.Slice.Shared as Shared
 use borrow.Rule.Slice.Shared.{lenV, sliceV}
 use borrow.Rule.Yields.{Yields}
@@ -30,8 +29,6 @@ use borrow.Table.Rows.{whole, sslice}
 use borrow.Table.Referent.{rtF, fInt}
 use borrow.Table.Owned.{ShrSlice}
 use Rattle.alc.proofs.Claim as T
-use Rattle.alc.proofs.Goal as GT
-use Rattle.alc.proofs.Goal.Laws as GT′
 use Rattle.alc.proofs.Answer as AT
 use Rattle.alc.proofs.Answer.Laws as AT′
 use Rattle.steps.proofs.State as ST
@@ -43,8 +40,8 @@ use Rattle.alc.specs.Shown.{answered, tableOf, blank}
 use Rattle.alc.specs.Verdict.{Verdict}
 use Rattle.steps.specs.Acting.{Ready}
 use Rattle.room.proofs.Says.{Con}
-use Rattle.room.proofs.Walk.{ev, W, Data, mirOf, ref, copied, let-go, slice-of, len-owed}
-use Rattle.room.proofs.Claims.{data!, byVal, asRes, goal, room-ptr, room-len}
+use Rattle.room.proofs.Walk.{ev, W, Data, mirOf, ref, copied, let-go, len-owedS}
+use Rattle.room.proofs.Claims.{data!, byVal, asRes, goal-copied, goal-gone, room-ptr, room-len, room-lent, lent-whole, seen-whole, seen-spare}
 use Rattle.derivation.specs.Waiting.{Stands, Stepped}
 
 -- ---- types
@@ -80,12 +77,6 @@ abbrev pub τ : ℕ → Ty
 
 -- ---- what `search` needs
 module _ (w : World) where
-  pub goal-copied : Yields (w .𝓤) (w .H) (w .𝓖 .A) (λ ρ. Unit {0}) (mirOf goal) (whole GT.the-row) (whole GT.the-row) GT.the-row (λ x. x) (λ x. x)
-  goal-copied = copied w goal
-
-  pub goal-gone : ToRoom (w .𝓤) (w .H) (w .𝓖 .A) (whole GT.the-row) (mirOf goal)
-  goal-gone = let-go w goal
-
   pub state-copied : Yields (w .𝓤) (w .H) (w .𝓖 .A) (λ ρ. Unit {0}) (mirOf state) (whole ST.the-row) (whole ST.the-row) ST.the-row (λ x. x) (λ x. x)
   state-copied = copied w state
 
@@ -98,11 +89,9 @@ module _ (w : World) where
   pub act-gone : ToRoom (w .𝓤) (w .H) (w .𝓖 .A) (whole CT.the-row) (mirOf act)
   act-gone = let-go w act
 
-  pub room-lent : (κ : Lft) (q : Share) → ReadsAt (w .𝓤) (w .H) (w .𝓖 .A) (mslice-owed T.the-row (ref T.the-row (named 0)) 0 5 (lease κ q)) (tyInt w64) 8 (λ x. lenV (x .0))
-  room-lent κ q = len-owed w T.the-row (named 0) 0 5 (lease κ q)
-
-  pub lent-whole : ReadsAs (w .𝓤) (w .H) (w .𝓖 .A) (mslice T.the-row (ref T.the-row erased) 5) (sliceTy (ref T.the-row erased)) sliceV
-  lent-whole = slice-of w T.the-row erased 5
+  -- the room while it is lent as a `&[Claim]`
+  pub room-shared : (κ : Lft) (q : Share) → ReadsAt (w .𝓤) (w .H) (w .𝓖 .A) (mslice-owedS T.the-row (ref T.the-row (named 0)) 0 5 (lease κ q)) (tyInt w64) 8 (λ x. lenV (x .0))
+  room-shared κ q = len-owedS w T.the-row (named 0) 0 5 (lease κ q)
 
   pub bytes-whole : (j : ℕ) → ReadsAs (w .𝓤) (w .H) (w .𝓖 .A) (sslice bytes (τ j) j) (sliceTy (τ j)) sliceV
   bytes-whole j = Shared.reads-sslice (w .𝓤) (w .H) (w .𝓖 .A) (W w) bytes (τ j) j
@@ -111,6 +100,9 @@ module _ (w : World) where
   bytes-spare j = spares-sslice (w .𝓤) (w .H) (w .𝓖 .A) (W w) bytes (τ j) j
 
 pub ruleset rules = (ev, goal-copied, goal-gone, state-copied, state-gone, act-copied, act-gone, room-ptr, room-len, room-lent, lent-whole, bytes-whole, bytes-spare)
+
+-- the same where the room is shared
+pub ruleset sharing = (ev, goal-gone, room-ptr, room-len, room-shared, seen-whole, seen-spare)
 
 -- ---- contracts: a has the arguments, z the result, e the parameters at exit
 abbrev pub step : Con

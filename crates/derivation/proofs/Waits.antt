@@ -13,20 +13,13 @@ use Rattle.alc.specs.Shown.{Shows, blank, tableOf}
 use Rattle.alc.specs.Verdict.{Verdict}
 use Rattle.alc.specs.declared.Claim.{Claim as Record}
 use Rattle.alc.specs.declared.Goal.{Goal as Records}
-use Rattle.room.specs.Stored.{stored, fetched, goalOf}
-use Rattle.room.proofs.Back.{stored-else, fetched-stored}
+use Rattle.room.specs.Stored.{blanks, stored, fetched, goalOf}
+use Rattle.room.proofs.Back.{copied-else, copied-same, fetched-stored}
 use Rattle.steps.specs.Acting
 use Rattle.steps.specs.Acting.{tookOf, Ready, Current, from, Acts, Acted}
 use Rattle.steps.specs.declared.State.{State}
 use Rattle.steps.specs.declared.Act.{Act}
 use Rattle.derivation.specs.Waiting.{Waiting, Rest, Stands, After, Stepped}
-
--- what is fetched depends on the places that are read alone
-fetched-same : (l m : List Record) (b n : ℕ) → ((i : ℕ) → i < n → getD m (b + i) blank ≡ getD l (b + i) blank) → fetched m b n ≡ fetched l b n
-unfolding fetched
-fetched-same l m b zero h = refl
-fetched-same l m b (suc n) h =
-    ap₂ (λ (t : List Record) (c : Record). set t n c) (fetched-same l m b n (λ i (g : i < n). h i (omega arith))) (h n (omega arith))
 
 -- the goals below place k wait on in a room that is the same below it
 stays : (l m : List Record) (counts counts′ : List ℕ) (k : ℕ) → ((i : ℕ) → i < k * 64 → getD m i blank ≡ getD l i blank) → ((j : ℕ) → j < k → getD counts′ j 0 ≡ getD counts j 0)
@@ -36,7 +29,7 @@ stays l m counts counts′ k same same′ sizes [] h w = tt
 stays l m counts counts′ k same same′ sizes (x ∷ hs) h w =
     let n = getD counts (length hs) 0 in
     let few : n ≤ 64 = sizes (length hs) in
-    let e : fetched m (length hs * 64) n ≡ fetched l (length hs * 64) n = fetched-same l m (length hs * 64) n (λ i (g : i < n). same (length hs * 64 + i) (omega arith)) in (
+    let e : fetched m (length hs * 64) n ≡ fetched l (length hs * 64) n = copied-same blanks 0 l m (length hs * 64) n (λ i (g : i < n). same (length hs * 64 + i) (omega arith)) in (
       ap (λ (c : ℕ). take c (fetched m (length hs * 64) c)) (same′ (length hs) (omega arith)) ∙ ap (take n) e ∙ w .0,
       stays l m counts counts′ k same same′ sizes hs (omega arith) (w .1),
     )
@@ -51,7 +44,7 @@ pushed l counts g x hs slots few sizes small full fits sh w = (
       ∙ fetched-stored l (length hs * 64) (g .claims) (g .count) small full (omega arith)
       ∙ sh,
   stays l (stored l (length hs * 64) (g .claims) (g .count)) counts (set counts (length hs) (g .count)) (length hs)
-      (λ i (h : i < length hs * 64). stored-else l (length hs * 64) (g .claims) (g .count) i (λ j (q : j < g .count) (e : i ≡ length hs * 64 + j). omega arith))
+      (λ i (h : i < length hs * 64). copied-else l (length hs * 64) (g .claims) 0 (g .count) i (λ j (q : j < g .count) (e : i ≡ length hs * 64 + j). omega arith))
       (λ j (h : j < length hs). getD-set-other counts (length hs) j (g .count) 0 (λ (e : j ≡ length hs). omega arith)) sizes hs (omega arith) w,
 )
 

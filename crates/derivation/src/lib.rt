@@ -9,6 +9,7 @@ ghost use mathlib.Core.Path.{_≡_};
 ghost use mathlib.Core.Bool.{not};
 ghost use mathlib.Core.List.{List};
 ghost use Prim.Native.Nat.{_≤_};
+ghost use lib.Dec.{eqb};
 ghost use lib.ListN.{length, replicate};
 ghost use Rattle.alc.specs.Claims.{Sided};
 ghost use Rattle.alc.specs.Shown.{answered, tableOf, blank};
@@ -58,15 +59,21 @@ fn going(s: State) -> bool
     !s.ended
 }
 
+// Whether the verdict that a state has come to is `proved`.
+fn passes(s: State) -> bool
+    ensures { λ r. ⌜ r ≡ eqb (s .number) 0 ⌝ }
+{
+    s.number == 0
+}
+
 // The answer of a state that has come to its verdict.
 fn answer_of(s: State) -> Answer
     ensures { λ r. ⌜ answered r ≡ verdictIn s ⌝ }
 {
-    let k = s.number;
-    if k == 0 {
+    if passes(s) {
         return Answer::Proved(s.lines);
     }
-    Answer::Refused(k, s.lines)
+    Answer::Refused(s.number, s.lines)
 }
 
 // One line, and what it asks of the room.

@@ -4,10 +4,13 @@ use mathlib.Core.Path.{_≡_, refl}
 use mathlib.Core.List.{[], _∷_}
 use Prim.Native.Nat.{ℕ, _<_, _≤_, _+_}
 use lib.ListN.{length, set, getD, replicate}
-use mir.Syntax.{Ty, tyInt, named, erased, w64}
+use lib.Dec.{lit<}
+use mir.Syntax.{Ty, Lifetime, tyArray, tyInt, named, erased, w64}
 use mir.Val.{Val}
 use base.Fml.{Lft, Share}
 use denote.Exit.{yes}
+use denote.Laws.{Is}
+use denote.Array.{Array}
 use denote.Slice.{sliceTy}
 use denote.Struct.Declared.{Declared, row, fields}
 use denote.Struct.Laws as L
@@ -18,6 +21,10 @@ use borrow.Kind.Value.{Valued, pVal, rVal}
 use borrow.Kind.Num.{pNum}
 use borrow.Kind.Unit.{rUnit}
 use borrow.Kind.MutSlice.{pMutS}
+use borrow.Kind.Array.{eStruct, eStruct-laws, arr-yields}
+use borrow.Kind.ShrSlice.{pShrS, spares-sslice}
+use borrow.Kind.ShrRef.{Spares}
+use borrow.Rule.Array.Rows.{arrF}
 use borrow.Rule.Local as Local
 use borrow.Rule.Slice.Mut.{mslice}
 use borrow.Rule.Slice.Relend.{mslice-owed}
@@ -25,17 +32,18 @@ use borrow.Rule.Slice.Shared.{lenV, sliceV}
 use borrow.Rule.Yields.{Yields}
 use borrow.Table.Copies.{cStruct}
 use borrow.Table.Elements.{at-mul}
-use borrow.Table.Reads.{ReadsAs, ReadsAt, ToRoom, ptrVal}
-use borrow.Table.Row.{Sc, sInt, valS, lease}
-use borrow.Table.Rows.{whole}
+use borrow.Table.Reads.{As, ReadsAs, ReadsAt, ToRoom, ptrVal}
+use borrow.Table.Row.{Sc, sInt, valS, lease, lft}
+use borrow.Table.Owned.{ShrSlice}
+use borrow.Table.Rows.{whole, sslice}
 use Rattle.alc.proofs.Claim as T
 use Rattle.alc.proofs.Claim.Laws as T′
 use Rattle.alc.proofs.Goal as GT
 use Rattle.alc.proofs.Goal.Laws as GT′
 use Rattle.alc.specs.Shown.{blank}
 use Rattle.room.proofs.Says.{Con}
-use Rattle.room.proofs.Walk.{ev, Data, Elem, mirOf, ref, copied, let-go, ptr-of, len-of, slice-of, len-owed}
-use Rattle.room.specs.Stored.{stored, fetched, goalOf}
+use Rattle.room.proofs.Walk.{ev, W, TellsIs, Data, Elem, mirOf, ref, refS, copied as copies-of, let-go, ptr-of, len-of, slice-of, len-owed, ptr-ofS, slice-ofS, slice-goneS, struct-read, struct-is, array-full, array-gone}
+use Rattle.room.specs.Stored.{copied, stored, fetched, goalOf}
 
 -- ---- types
 abbrev pub num : Sc
@@ -88,13 +96,13 @@ roomP = pMutS T.the-row 0 tt
 -- ---- what `search` needs
 module _ (w : World) where
   pub claim-copied : Yields (w .𝓤) (w .H) (w .𝓖 .A) (λ ρ. Unit {0}) (mirOf claim) (whole T.the-row) (whole T.the-row) T.the-row (λ x. x) (λ x. x)
-  claim-copied = copied w claim
+  claim-copied = copies-of w claim
 
   pub claim-gone : ToRoom (w .𝓤) (w .H) (w .𝓖 .A) (whole T.the-row) (mirOf claim)
   claim-gone = let-go w claim
 
   pub goal-copied : Yields (w .𝓤) (w .H) (w .𝓖 .A) (λ ρ. Unit {0}) (mirOf goal) (whole GT.the-row) (whole GT.the-row) GT.the-row (λ x. x) (λ x. x)
-  goal-copied = copied w goal
+  goal-copied = copies-of w goal
 
   pub goal-gone : ToRoom (w .𝓤) (w .H) (w .𝓖 .A) (whole GT.the-row) (mirOf goal)
   goal-gone = let-go w goal
@@ -105,13 +113,49 @@ module _ (w : World) where
   pub room-len : ReadsAt (w .𝓤) (w .H) (w .𝓖 .A) (mslice T.the-row (ref T.the-row (named 0)) 0) (tyInt w64) 8 lenV
   room-len = len-of w T.the-row (named 0) 0
 
-  pub room-lent : (κ : Lft) (q : Share) → ReadsAt (w .𝓤) (w .H) (w .𝓖 .A) (mslice-owed T.the-row (ref T.the-row (named 0)) 0 1 (lease κ q)) (tyInt w64) 8 (λ x. lenV (x .0))
-  room-lent κ q = len-owed w T.the-row (named 0) 0 1 (lease κ q)
+  -- lent at the lifetime β
+  pub room-lent : (β : ℕ) (κ : Lft) (q : Share) → ReadsAt (w .𝓤) (w .H) (w .𝓖 .A) (mslice-owed T.the-row (ref T.the-row (named 0)) 0 β (lease κ q)) (tyInt w64) 8 (λ x. lenV (x .0))
+  room-lent β κ q = len-owed w T.the-row (named 0) 0 β (lease κ q)
 
-  pub lent-whole : ReadsAs (w .𝓤) (w .H) (w .𝓖 .A) (mslice T.the-row (ref T.the-row erased) 1) (sliceTy (ref T.the-row erased)) sliceV
-  lent-whole = slice-of w T.the-row erased 1
+  pub lent-whole : (β : ℕ) → ReadsAs (w .𝓤) (w .H) (w .𝓖 .A) (mslice T.the-row (ref T.the-row erased) β) (sliceTy (ref T.the-row erased)) sliceV
+  lent-whole β = slice-of w T.the-row erased β
+
+  -- a run that is shared, as a parameter
+  pub seen-ptr : (j : ℕ) → ReadsAt (w .𝓤) (w .H) (w .𝓖 .A) (sslice T.the-row (refS T.the-row (named j)) j) (refS T.the-row (named j)) 0 ptrVal
+  seen-ptr j = ptr-ofS w T.the-row (named j) j
+
+  pub seen-whole : (ℓ : Lifetime) (j : ℕ) → ReadsAs (w .𝓤) (w .H) (w .𝓖 .A) (sslice T.the-row (refS T.the-row ℓ) j) (sliceTy (refS T.the-row ℓ)) sliceV
+  seen-whole ℓ j = slice-ofS w T.the-row ℓ j
+
+  pub seen-spare : (ℓ : Lifetime) (j : ℕ) → Spares (w .𝓤) (w .H) (w .𝓖 .A) (sslice T.the-row (refS T.the-row ℓ) j) (λ ρ x. ShrSlice erased (lft ρ j) T.the-row .own x)
+  seen-spare ℓ j = spares-sslice (w .𝓤) (w .H) (w .𝓖 .A) (W w) T.the-row (refS T.the-row ℓ) j
+
+  pub seen-gone : (j : ℕ) → ToRoom (w .𝓤) (w .H) (w .𝓖 .A) (sslice T.the-row (refS T.the-row erased) j) (sliceTy (refS T.the-row erased))
+  seen-gone j = slice-goneS w T.the-row erased j
+
+  -- a local array of records: made by a repeat, copied, let go
+  pub claim-read : ReadsAs (w .𝓤) (w .H) (w .𝓖 .A) (whole T.the-row) (mirOf claim) (L.val T.the-type T′.the-laws)
+  claim-read = struct-read w T.the-type T′.the-laws
+
+  pub claim-is : TellsIs (w .𝓤) (w .H) (w .𝓖 .A) (whole T.the-row) (λ x. Is T.the-row x (L.val T.the-type T′.the-laws x ∷ []))
+  claim-is = struct-is w T.the-type T′.the-laws
+
+  pub claims-full : (n : ℕ) → As (w .𝓤) (w .H) (w .𝓖 .A) (whole (Array T.the-row n)) (arrF T.the-row n 0) (λ xs. xs)
+  claims-full = array-full w T.the-type T′.the-laws
+
+  pub claims-copied : (n : ℕ) → Yields (w .𝓤) (w .H) (w .𝓖 .A) (λ ρ. Unit {0}) (tyArray (mirOf claim) n) (arrF T.the-row n 0) (arrF T.the-row n 0) (Array T.the-row n) (λ x. x) (λ x. x)
+  claims-copied n = arr-yields (w .𝓤) (w .H) (w .𝓖 .A) (W w) (eStruct T.the-type T′.the-laws T′.the-copy) (eStruct-laws T.the-type T′.the-laws T′.the-copy T′.the-plain) n
+
+  pub claims-gone : (n : ℕ) → ToRoom (w .𝓤) (w .H) (w .𝓖 .A) (arrF T.the-row n 0) (tyArray (mirOf claim) n)
+  claims-gone = array-gone w T.the-row
 
 pub ruleset room = (ev, claim-copied, claim-gone, goal-copied, goal-gone, room-ptr, room-len, room-lent, lent-whole)
+
+pub ruleset seen = (ev, claim-copied, claim-gone, seen-ptr, seen-whole, seen-spare)
+
+pub ruleset run = (ev, claim-copied, claim-gone, room-ptr, room-len, room-lent, lent-whole, seen-whole, seen-spare)
+
+pub ruleset own = (ev, lit<, claim-copied, claim-gone, goal-copied, goal-gone, claim-read, claim-is, claims-full, claims-copied, claims-gone, room-ptr, room-len, room-lent, lent-whole, seen-whole, seen-spare)
 
 -- ---- contracts: a has the arguments, z the result, e the parameters at exit
 abbrev pub put : Con
@@ -128,10 +172,20 @@ abbrev pub get : Con
 get = record {
   name = "room::get";
   n = 1;
-  ps = roomP ∷ pNum w64 ∷ [];
+  ps = pShrS T.the-row 0 tt ∷ pNum w64 ∷ [];
   r = claimR;
   pre = λ κs a. (a .1 .0 < length (a .0 .now)) ∷ [];
-  post = λ κs a z e. ((z ≡ getD (a .0 .now) (a .1 .0) blank) × (e .0 .now ≡ a .0 .now)) ∷ [];
+  post = λ κs a z e. (z ≡ getD (a .0 .now) (a .1 .0) blank) ∷ [];
+}
+
+abbrev pub copy : Con
+copy = record {
+  name = "room::copy";
+  n = 2;
+  ps = pMutS T.the-row 0 tt ∷ pNum w64 ∷ pShrS T.the-row 1 tt ∷ pNum w64 ∷ pNum w64 ∷ [];
+  r = rUnit;
+  pre = λ κs a. ((a .1 .0 + a .1 .1 .1 .1 .0 ≤ length (a .0 .now)) × (a .1 .1 .1 .0 + a .1 .1 .1 .1 .0 ≤ length (a .1 .1 .0 .now))) ∷ [];
+  post = λ κs a z e. (e .0 .now ≡ copied (a .0 .now) (a .1 .0) (a .1 .1 .0 .now) (a .1 .1 .1 .0) (a .1 .1 .1 .1 .0)) ∷ [];
 }
 
 abbrev pub blank-all : Con
@@ -158,8 +212,8 @@ abbrev pub fetch : Con
 fetch = record {
   name = "room::fetch";
   n = 1;
-  ps = roomP ∷ pNum w64 ∷ pNum w64 ∷ [];
+  ps = pShrS T.the-row 0 tt ∷ pNum w64 ∷ pNum w64 ∷ [];
   r = goalR;
   pre = λ κs a. ((a .1 .1 .0 ≤ 64) × (a .1 .0 + a .1 .1 .0 ≤ length (a .0 .now))) ∷ [];
-  post = λ κs a z e. ((z ≡ goalOf (fetched (a .0 .now) (a .1 .0) (a .1 .1 .0)) (a .1 .1 .0)) × (e .0 .now ≡ a .0 .now)) ∷ [];
+  post = λ κs a z e. (z ≡ goalOf (fetched (a .0 .now) (a .1 .0) (a .1 .1 .0)) (a .1 .1 .0)) ∷ [];
 }

@@ -11,15 +11,18 @@ use Rattle.alc.specs.declared.Goal.{Goal}
 unfoldable pub blanks : List Claim
 blanks = replicate 64 blank
 
+-- the run t with n records of the run l, from base on, in its places from a on
+unfoldable pub copied : List Claim → ℕ → List Claim → ℕ → ℕ → List Claim
+copied t a l base zero = t
+copied t a l base (suc n) = set (copied t a l base n) (a + n) (getD l (base + n) blank)
+
 -- the first n of the records cs are stored in the room l, from base on
-unfoldable pub stored : List Claim → ℕ → List Claim → ℕ → List Claim
-stored l base cs zero = l
-stored l base cs (suc n) = set (stored l base cs n) (base + n) (getD cs n blank)
+abbrev pub stored : List Claim → ℕ → List Claim → ℕ → List Claim
+stored l base cs n = copied l base cs 0 n
 
 -- sixty-four records, of which the first n are those of the room l from base on
-unfoldable pub fetched : List Claim → ℕ → ℕ → List Claim
-fetched l base zero = blanks
-fetched l base (suc n) = set (fetched l base n) n (getD l (base + n) blank)
+abbrev pub fetched : List Claim → ℕ → ℕ → List Claim
+fetched l base n = copied blanks 0 l base n
 
 abbrev pub goalOf : List Claim → ℕ → Goal
 goalOf cs n = record { claims = cs; count = n }

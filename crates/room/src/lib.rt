@@ -8,7 +8,7 @@ ghost use mathlib.Core.Path.{_≡_};
 ghost use Prim.Native.Nat.{_+_, _<_, _≤_};
 ghost use lib.ListN.{length, set, replicate, getD};
 ghost use Rattle.alc.specs.Shown.{blank};
-ghost use Rattle.room.specs.Stored.{blanks, stored, fetched, goalOf};
+ghost use Rattle.room.specs.Stored.{copied, stored, fetched, goalOf};
 
 // A record goes into the room, at a place.
 pub fn put(room: &mut [Claim], at: usize, c: Claim)
@@ -18,10 +18,10 @@ pub fn put(room: &mut [Claim], at: usize, c: Claim)
     room[at] = c;
 }
 
-// The record at a place of the room, which is as it was.
-pub fn get(room: &mut [Claim], at: usize) -> Claim
+// The record at a place of the room.
+pub fn get(room: &[Claim], at: usize) -> Claim
     requires { ⌜ at < length (now room) ⌝ }
-    ensures { λ r. ⌜ (r ≡ getD (now (room .entry)) at blank) × (now (room .exit) ≡ now (room .entry)) ⌝ }
+    ensures { λ r. ⌜ r ≡ getD (now (room .entry)) at blank ⌝ }
 {
     room[at]
 }
@@ -45,19 +45,30 @@ pub fn blank_claim() -> Claim
 pub fn blank_all(room: &mut [Claim])
     ensures { λ _. ⌜ now (room .exit) ≡ replicate (length (now (room .entry))) blank ⌝ }
 {
+    let mut at = 0;
+    while at < room.len() {
+        put(room, at, blank_claim());
+        at += 1;
+    }
+}
+
+// n records of one run, from base on, go into another, from a place on.
+fn copy(to: &mut [Claim], at: usize, from: &[Claim], base: usize, n: usize)
+    requires { ⌜ (at + n ≤ length (now to)) × (base + n ≤ length (now from)) ⌝ }
+    ensures { λ _. ⌜ now (to .exit) ≡ copied (now (to .entry)) at (now (from .entry)) base n ⌝ }
+{
     let mut i = 0;
-    while i < room.len() {
-        put(room, i, blank_claim());
+    while i < n {
+        put(to, at + i, get(from, base + i));
         i += 1;
     }
 }
 
-// The goal's record at a place.
-fn claim_of(g: Goal, i: usize) -> Claim
-    requires { ⌜ i < 64 ⌝ }
-    ensures { λ r. ⌜ r ≡ getD (g .claims) i blank ⌝ }
+// The goal's records.
+fn claims_of(g: Goal) -> [Claim; 64]
+    ensures { λ r. ⌜ r ≡ g .claims ⌝ }
 {
-    g.claims[i]
+    g.claims
 }
 
 // How many records the goal has.
@@ -67,23 +78,12 @@ fn count_of(g: Goal) -> usize
     g.count
 }
 
-// The goal with another record at a place.
-fn with_claim(g: Goal, i: usize, c: Claim) -> Goal
-    requires { ⌜ i < 64 ⌝ }
-    ensures { λ r. ⌜ r ≡ goalOf (set (g .claims) i c) (g .count) ⌝ }
+// The goal of the first n records.
+fn goal_of(claims: [Claim; 64], n: usize) -> Goal
+    ensures { λ r. ⌜ r ≡ goalOf claims n ⌝ }
 {
-    let mut h = g;
-    h.claims[i] = c;
-    h
-}
-
-// A goal of n blank records.
-fn empty(n: usize) -> Goal
-    ensures { λ r. ⌜ r ≡ goalOf blanks n ⌝ }
-{
-    let c = blank_claim();
     Goal {
-        claims: [c; 64],
+        claims: claims,
         count: n,
     }
 }
@@ -93,24 +93,18 @@ pub fn store(room: &mut [Claim], base: usize, g: Goal)
     requires { ⌜ (g .count ≤ 64) × (base + g .count ≤ length (now room)) ⌝ }
     ensures { λ _. ⌜ now (room .exit) ≡ stored (now (room .entry)) base (g .claims) (g .count) ⌝ }
 {
+    let claims = claims_of(g);
     let n = count_of(g);
-    let mut i = 0;
-    while i < n {
-        put(room, base + i, claim_of(g, i));
-        i += 1;
-    }
+    copy(room, base, &claims, 0, n);
 }
 
-// n records of the room, from base on, as a goal; the room is as it was.
-pub fn fetch(room: &mut [Claim], base: usize, n: usize) -> Goal
+// n records of the room, from base on, as a goal.
+pub fn fetch(room: &[Claim], base: usize, n: usize) -> Goal
     requires { ⌜ (n ≤ 64) × (base + n ≤ length (now room)) ⌝ }
-    ensures { λ r. ⌜ (r ≡ goalOf (fetched (now (room .entry)) base n) n) × (now (room .exit) ≡ now (room .entry)) ⌝ }
+    ensures { λ r. ⌜ r ≡ goalOf (fetched (now (room .entry)) base n) n ⌝ }
 {
-    let mut g = empty(n);
-    let mut i = 0;
-    while i < n {
-        g = with_claim(g, i, get(room, base + i));
-        i += 1;
-    }
-    g
+    let blank = blank_claim();
+    let mut claims = [blank; 64];
+    copy(&mut claims, 0, room, base, n);
+    goal_of(claims, n)
 }

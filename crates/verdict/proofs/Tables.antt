@@ -5,11 +5,8 @@ use mathlib.Core.List.{List, [], _∷_}
 use Prim.Native.Nat.{ℕ}
 use lib.Dec.{lit<}
 use lib.ListN.{length, replicate}
-use mir.Syntax.{Ty, tyArray, tyInt, named, erased, w8, w64}
-use base.Fml.{Lft, Share}
+use mir.Syntax.{Ty, tyArray, tyInt, erased, w8}
 use denote.Array.{Array}
-use denote.Laws.{Is}
-use denote.Struct.Laws as L
 use denote.Slice.{sliceTy}
 use borrow.Fn.World.{World}
 use borrow.Kind.Array.{eInt, eInt-laws, arr-yields}
@@ -17,23 +14,19 @@ use borrow.Kind.MutSlice.{pMutS}
 use borrow.Kind.ShrSlice.{pShrS, spares-sslice}
 use borrow.Kind.ShrRef.{Spares}
 use borrow.Rule.Array.Rows.{arrF}
-use borrow.Rule.Slice.Mut.{mslice}
-use borrow.Rule.Slice.Relend.{mslice-owed}
-use borrow.Rule.Slice.Shared as Shared
-use borrow.Rule.Slice.Shared.{lenV, sliceV}
+use borrow.Rule.Slice.Shared.{sliceV}
 use borrow.Rule.Yields.{Yields}
-use borrow.Table.Reads.{As, ReadsAs, ReadsAt, ToRoom}
-use borrow.Table.Row.{lease, lft}
+use borrow.Table.Reads.{ReadsAs, ToRoom}
+use borrow.Table.Row.{lft}
 use borrow.Table.Rows.{whole, sslice}
 use borrow.Table.Owned.{ShrSlice}
 use Rattle.alc.proofs.Claim as T
-use Rattle.alc.proofs.Claim.Laws as T′
 use Rattle.steps.proofs.State as ST
 use Rattle.alc.specs.Shown.{answered, blank}
 use Rattle.alc.specs.Verdict.{verdict}
 use Rattle.room.proofs.Says.{Con}
-use Rattle.room.proofs.Walk.{ev, W, Data, mirOf, ref, refS, copied, let-go, slice-of, len-owed, slice-ofS, slice-goneS, TellsIs, struct-read, struct-is, array-full, array-gone}
-use Rattle.room.proofs.Claims.{data!, claim, claim-copied, claim-gone, room-ptr, room-len}
+use Rattle.room.proofs.Walk.{ev, W, Data, mirOf, refS, copied, let-go, slice-ofS, slice-goneS, array-gone}
+use Rattle.room.proofs.Claims.{data!, claim-copied, claim-gone, claim-read, claim-is, claims-full, claims-gone, room-ptr, room-len, room-lent, lent-whole}
 use Rattle.derivation.proofs.Tables.{state, state-copied, state-gone, answerR, bytes, bytes-whole, bytes-spare}
 use Rattle.verdict.proofs.Opening as OT
 use Rattle.verdict.proofs.Opening.Laws as OT′
@@ -70,30 +63,8 @@ module _ (w : World) where
   pub lent-gone : (j : ℕ) → ToRoom (w .𝓤) (w .H) (w .𝓖 .A) (sslice bytes (refS bytes erased) j) (sliceTy (refS bytes erased))
   lent-gone j = slice-goneS w bytes erased j
 
-  -- the room that is lent
-  pub room-lent : (κ : Lft) (q : Share) → ReadsAt (w .𝓤) (w .H) (w .𝓖 .A) (mslice-owed T.the-row (ref T.the-row (named 0)) 0 2 (lease κ q)) (tyInt w64) 8 (λ x. lenV (x .0))
-  room-lent κ q = len-owed w T.the-row (named 0) 0 2 (lease κ q)
-
-  pub lent-whole : ReadsAs (w .𝓤) (w .H) (w .𝓖 .A) (mslice T.the-row (ref T.the-row erased) 2) (sliceTy (ref T.the-row erased)) sliceV
-  lent-whole = slice-of w T.the-row erased 2
-
-  -- a room of a function's own, a local array, which it lends at its second lifetime
-  pub claim-read : ReadsAs (w .𝓤) (w .H) (w .𝓖 .A) (whole T.the-row) (mirOf claim) (L.val T.the-type T′.the-laws)
-  claim-read = struct-read w T.the-type T′.the-laws
-
-  pub claim-is : TellsIs (w .𝓤) (w .H) (w .𝓖 .A) (whole T.the-row) (λ x. Is T.the-row x (L.val T.the-type T′.the-laws x ∷ []))
-  claim-is = struct-is w T.the-type T′.the-laws
-
-  pub claims-full : (n : ℕ) → As (w .𝓤) (w .H) (w .𝓖 .A) (whole (Array T.the-row n)) (arrF T.the-row n 0) (λ xs. xs)
-  claims-full = array-full w T.the-type T′.the-laws
-
-  pub claims-gone : (n : ℕ) → ToRoom (w .𝓤) (w .H) (w .𝓖 .A) (arrF T.the-row n 0) (tyArray (mirOf claim) n)
-  claims-gone = array-gone w T.the-row
-
-  pub own-whole : ReadsAs (w .𝓤) (w .H) (w .𝓖 .A) (mslice T.the-row (ref T.the-row erased) 1) (sliceTy (ref T.the-row erased)) sliceV
-  own-whole = slice-of w T.the-row erased 1
-
-pub ruleset own = (ev, lit<, claim-copied, claim-gone, claim-read, claim-is, claims-full, claims-gone, own-whole, bytes-whole, bytes-spare)
+-- a room of a function's own, a local array
+pub ruleset own = (ev, lit<, claim-copied, claim-gone, claim-read, claim-is, claims-full, claims-gone, lent-whole, bytes-whole, bytes-spare)
 
 pub ruleset rules = (ev, opening-copied, opening-gone, state-copied, state-gone, column-copied, column-gone, lent-column, column-spare, lent-gone, room-ptr, room-len, room-lent, lent-whole, bytes-whole, bytes-spare)
 

@@ -47,10 +47,10 @@ module _ (w : World) (step : Knows (fun C.step) w code.env) (blank-all : Knows (
       & backs (claim .R) 11 1 0 5 (named 0) (lease (κs .0) (qs .0)) (λ x. x) (λ x. x) (search rules)))))))
       (lends (claim .R) 1 13 14 0 5 (named 0) (lease (κs .0) (qs .0)) (λ x. x) (λ x. x) (λ x. x) (tts 15) (search rules) (search rules) (
       calls (fun RC.blank-all) blank-all 12 (5 ∷ []) (record { pos = 14; ty = ref (claim .R) erased; ref = λ x. x }, tt) (search rules) (search rules) ▸
-      backs (claim .R) 14 1 0 5 (named 0) (lease (κs .0) (qs .0)) (λ x. x) (λ x. x) (search rules) ▹
+      backs (claim .R) 14 1 0 5 (named 0) (lease (κs .0) (qs .0)) (λ x. x) (λ x. x) (search rules) ▹ clears (12 ∷ []) (search rules) (
       calls F.answer-of answer-of 0 [] (record { pos = 8; st = []; d = 0; at = λ x. x }, tt) (search rules) (search rules) ▸
-      clears (6 ∷ 7 ∷ 8 ∷ 12 ∷ []) (search rules) (
-      returns tt)))
+      clears (6 ∷ 7 ∷ 8 ∷ []) (search rules) (
+      returns tt))))
 
   met : Asks! C.judge-steps 1 code.function w code.env body
   unfolding body
@@ -73,22 +73,7 @@ module _ (w : World) (step : Knows (fun C.step) w code.env) (blank-all : Knows (
                   ),
                 ),
             λ test. let off : cur .ended ≡ true = not-false (cur .ended) (sym (g .5) ∙ test) in
-                λ γ. (
-                  refl,
-                  (
-                    λ _. tt,
-                    λ b. (
-                      refl,
-                      λ same. (
-                        λ _. tt,
-                        λ r. (
-                          (same-len room (b .2 .0) (same ∙ inv .long), (refl, (refl, (refl, (refl, (tt, (tt, tt))))))),
-                          (λ cs v st. r .5 ∙ inv .after cs v st .there off, b .5 ∙ ap (λ (n : ℕ). replicate n blank) (inv .long)),
-                        ),
-                      ),
-                    ),
-                  ),
-                ),
+                λ γ. (refl, (λ _. tt, λ b. (refl, λ same. (λ _. tt, λ r. ((same-len room (b .2 .0) (same ∙ inv .long), (refl, (refl, (refl, (refl, (tt, (tt, tt))))))), (λ cs v st. r .5 ∙ inv .after cs v st .there off, b .5 ∙ ap (λ (n : ℕ). replicate n blank) (inv .long))))))),
           ),
         ),
   )

@@ -11,12 +11,12 @@ use borrow.Author.Tests.{eqb-true, eqb-false}
 use borrow.Fn.Args.{vAt}
 use borrow.Fn.World.{World}
 use borrow.Rule.Scalar.{oAt, oInt}
-use borrow.Table.Row.{sBool, lease, valS}
+use borrow.Table.Row.{sBool, sUnit, lease, valS}
 use Rattle.room.proofs as R
 use Rattle.room.proofs.Says.{fun, Knows, knows}
-use Rattle.room.proofs.Walk.{Body!, Asks!, proved, same-len, tts, ref, _▸_, _▹_, calcs, copies, clears, returns, joins, conds, skips, lends, calls, backs}
+use Rattle.room.proofs.Walk.{used, Body!, Asks!, proved, same-len, tts, ref, refS, _▸_, _▹_, calcs, copies, clears, returns, joins, conds, skips, lends, calls, backs, shares, unshares}
 use Rattle.room.proofs.Claims as RC
-use Rattle.room.proofs.Claims.{claim}
+use Rattle.room.proofs.Claims.{claim, num}
 use Rattle.room.specs.Stored.{stored, fetched, goalOf}
 use Rattle.alc.specs.declared.Claim.{Claim}
 use Rattle.alc.specs.declared.Goal.{Goal}
@@ -26,7 +26,7 @@ use Rattle.steps.specs.declared.Act.{Act}
 use Rattle.derivation.specs.Waiting.{Stepped}
 use Rattle.derivation.proofs.Covered as F
 use Rattle.derivation.proofs.Tables as C
-use Rattle.derivation.proofs.Tables.{state, byte, i8, τ, rules}
+use Rattle.derivation.proofs.Tables.{state, byte, i8, τ, rules, sharing}
 use Rattle.derivation.proofs.Waits.{rests, stores, fetches}
 use Rattle.derivation.proofs.step.Key.{name}
 use Rattle.derivation.proofs.step.Statement.{statement}
@@ -46,11 +46,10 @@ module _ (text ks xs ys : List ℕ) (entries : ℕ) (l : List Claim) (s : State)
   storing is1 base g r m eb eg er em =
       subst (Stepped text ks xs ys entries l s m) (sym er) (stores text ks xs ys entries l s (pre .0) (pre .1) a d m is1 (em ∙ rw (eb, eg)))
 
-  fetching : a .kind ≡ 2 → (base n : ℕ) (g : Goal) (next r : State) (m : List Claim) → base ≡ a .base → n ≡ a .count → (g ≡ goalOf (fetched l base n) n) × (m ≡ l) → next ≡ a .next
-      → r ≡ tookOf next g → Stepped text ks xs ys entries l s m r
-  fetching is2 base n g next r m eb en ef ex er =
-      subst (λ (t : List Claim). Stepped text ks xs ys entries l s t r) (sym (ef .1))
-      (subst (Stepped text ks xs ys entries l s l) (sym (er ∙ ap (λ (t : State). tookOf t g) ex)) (fetches text ks xs ys entries l s (pre .0) (pre .1) a d g is2 (ef .0 ∙ rw (eb, en))))
+  fetching : a .kind ≡ 2 → (base n : ℕ) (g : Goal) (next r : State) → base ≡ a .base → n ≡ a .count → g ≡ goalOf (fetched l base n) n → next ≡ a .next → r ≡ tookOf next g
+      → Stepped text ks xs ys entries l s l r
+  fetching is2 base n g next r eb en ef ex er =
+      subst (Stepped text ks xs ys entries l s l) (sym (er ∙ ap (λ (t : State). tookOf t g) ex)) (fetches text ks xs ys entries l s (pre .0) (pre .1) a d g is2 (ef ∙ rw (eb, en)))
 
   resting : (a .kind ≡ 1 → ⊥) → (a .kind ≡ 2 → ⊥) → (r : State) → r ≡ a .next → Stepped text ks xs ys entries l s l r
   resting not1 not2 r er = subst (Stepped text ks xs ys entries l s l) (sym er) (rests text ks xs ys entries l s (pre .0) (pre .1) a d not1 not2)
@@ -66,23 +65,24 @@ module _ (w : World) (store : Knows (fun RC.store) w code.env) (fetch : Knows (f
       lends (claim .R) 1 14 15 0 5 (named 0) (lease (κs .0) (qs .0)) (λ x. x) (λ x. x) (λ x. x) (tts 22) (search rules) (search rules) (
       calls F.base-of base-of 16 [] (record { pos = 8; st = []; d = 0; at = λ x. x }, tt) (search rules) (search rules) ▸
       calls F.aside-of aside-of 17 [] (record { pos = 8; st = []; d = 0; at = λ x. x }, tt) (search rules) (search rules) ▸
-      calls (fun RC.store) store 13 (5 ∷ []) (record { pos = 15; ty = ref (claim .R) erased; ref = λ x. x }, (vAt 16 (λ x. x), (record { pos = 17; st = []; d = 0; at = λ x. x }, tt))) (search rules) (search rules) ▸
+      calls (fun RC.store) store 13 (5 ∷ []) (record { pos = 15; ty = ref (claim .R) erased; ref = λ x. x }, (vAt 16 (λ x. x), (record { pos = 17; st = []; d = 0; at = λ x. x }, tt))) (search rules, search rules, refl, (search rules, (search rules, tt))) (search rules) ▸
       backs (claim .R) 15 1 0 5 (named 0) (lease (κs .0) (qs .0)) (λ x. x) (λ x. x) (search rules) ▹
       copies state 10 0 (λ x. x) (λ x. x) (search rules) ▸
-      clears (6 ∷ 7 ∷ 8 ∷ 9 ∷ []) (search rules) (clears (10 ∷ 12 ∷ 13 ∷ []) (search rules) (clears (16 ∷ 17 ∷ []) (search rules) (
+      clears (6 ∷ 7 ∷ 8 ∷ 9 ∷ []) (used w num, (C.state-gone w, (C.act-gone w, (used w byte, tt)))) (clears (10 ∷ 12 ∷ 13 ∷ []) (C.state-gone w, (used w sBool, (used w sUnit, tt))) (clears (16 ∷ 17 ∷ []) (used w num, (RC.goal-gone w, tt)) (
       returns tt))))) (skips tt)) (
       calcs 12 sBool eq (oAt 9 i8 (valS byte)) (oInt w8 2) (search rules) ▸
       joins (conds 12 (λ x. x) (search rules) (
-      lends (claim .R) 1 18 19 0 5 (named 0) (lease (κs .0) (qs .0)) (λ x. x) (λ x. x) (λ x. x) (tts 22) (search rules) (search rules) (
+      shares (claim .R) 1 18 19 0 5 (named 0) (lease (κs .0) (qs .0)) (λ x. x) (λ x. x) (λ x. x) (tts 22) (search sharing) (search sharing) (
       calls F.base-of base-of 20 [] (record { pos = 8; st = []; d = 0; at = λ x. x }, tt) (search rules) (search rules) ▸
       calls F.count-of count-of 21 [] (record { pos = 8; st = []; d = 0; at = λ x. x }, tt) (search rules) (search rules) ▸
-      calls (fun RC.fetch) fetch 11 (5 ∷ []) (record { pos = 19; ty = ref (claim .R) erased; ref = λ x. x }, (vAt 20 (λ x. x), (vAt 21 (λ x. x), tt))) (search rules) (search rules) ▸
-      backs (claim .R) 19 1 0 5 (named 0) (lease (κs .0) (qs .0)) (λ x. x) (λ x. x) (search rules) ▹
+      calls (fun RC.fetch) fetch 11 (5 ∷ []) (record { pos = 19; ty = refS (claim .R) erased; ref = λ x. x }, (vAt 20 (λ x. x), (vAt 21 (λ x. x), tt))) (search sharing, search sharing, refl, (search sharing, (search sharing, tt))) (search sharing) ▸
+      clears (19 ∷ []) (RC.seen-gone w 5, tt) (
+      unshares (claim .R) 1 0 5 (named 0) (lease (κs .0) (qs .0)) (λ x. x) (search sharing) ▹
       calls F.took took 0 [] (record { pos = 10; st = []; d = 0; at = λ x. x }, (record { pos = 11; st = []; d = 0; at = λ x. x }, tt)) (search rules) (search rules) ▸
-      clears (6 ∷ 7 ∷ 8 ∷ 9 ∷ []) (search rules) (clears (10 ∷ 11 ∷ 12 ∷ []) (search rules) (clears (20 ∷ 21 ∷ []) (search rules) (
-      returns tt))))) (skips tt)) (
+      clears (6 ∷ 7 ∷ 8 ∷ 9 ∷ []) (used w num, (C.state-gone w, (C.act-gone w, (used w byte, tt)))) (clears (10 ∷ 11 ∷ 12 ∷ []) (C.state-gone w, (RC.goal-gone w, (used w sBool, tt))) (clears (20 ∷ 21 ∷ []) (used w num, (used w num, tt)) (
+      returns tt)))))) (skips tt)) (
       copies state 10 0 (λ x. x) (λ x. x) (search rules) ▸
-      clears (6 ∷ 7 ∷ 8 ∷ 9 ∷ []) (search rules) (clears (10 ∷ 12 ∷ []) (search rules) (
+      clears (6 ∷ 7 ∷ 8 ∷ 9 ∷ []) (used w num, (C.state-gone w, (C.act-gone w, (used w byte, tt)))) (clears (10 ∷ 12 ∷ []) (C.state-gone w, (used w sBool, tt)) (
       returns tt))))
 
   met : Asks! C.step 1 code.function w code.env body
@@ -126,11 +126,8 @@ module _ (w : World) (store : Knows (fun RC.store) w code.env) (fetch : Knows (f
                           λ n. (
                             λ _. part (text .now) (kinds .now) (firsts .now) (seconds .now) entries (room .now) s pre (a .1) (a .5) is2 (base .1) (n .1) (base .5) (n .5),
                             λ f. (
-                              refl,
-                              λ same. (
-                                λ _. tt,
-                                λ r. ((same-len room (f .2 .0) same, (refl, (refl, (refl, (refl, (tt, (tt, tt))))))), fetching (text .now) (kinds .now) (firsts .now) (seconds .now) entries (room .now) s pre (a .1) (a .5) is2 (base .1) (n .1) (f .1) (next .1) (r .1) (f .2 .0) (base .5) (n .5) (f .5) (next .5) (r .5)),
-                              ),
+                              λ _. tt,
+                              λ r. ((refl, (refl, (refl, (refl, (refl, (tt, (tt, tt))))))), fetching (text .now) (kinds .now) (firsts .now) (seconds .now) entries (room .now) s pre (a .1) (a .5) is2 (base .1) (n .1) (f .1) (next .1) (r .1) (base .5) (n .5) (f .5) (next .5) (r .5)),
                             ),
                           ),
                         ),

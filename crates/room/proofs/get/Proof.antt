@@ -1,5 +1,4 @@
--- `room::get` meets its contract: the record is read seven times its place on, where the rule for a load from a slice has that place, and a
--- load changes nothing. The product fits, since the whole room does. Assumes nothing.
+-- `room::get` meets its contract: the record lies seven times its place on. Assumes nothing.
 use mathlib.Core.Path.{refl}
 use mathlib.Core.List.{[], _∷_}
 use mir.Syntax.{w64, mul, unsigned, offset, field, named}
@@ -9,9 +8,9 @@ use borrow.Rule.Scalar.{oAt, oFld, oInt}
 use borrow.Table.Reads.{ptrVal}
 use borrow.Table.Row.{sPtr, lease}
 use borrow.Fn.World.{World}
-use Rattle.room.proofs.Walk.{Body!, Asks!, proved, ref, _▸_, calcs, fetches, copies, clears, returns}
+use Rattle.room.proofs.Walk.{Body!, Asks!, proved, refS, _▸_, calcs, peeks, copies, clears, returns}
 use Rattle.room.proofs.Claims as C
-use Rattle.room.proofs.Claims.{num, i64, nat, claim, cell, room}
+use Rattle.room.proofs.Claims.{num, i64, nat, claim, cell, seen}
 use Rattle.room.proofs.get.Key.{name}
 use Rattle.room.proofs.get.Statement.{statement}
 use Rattle.room.proofs.get.Code as code
@@ -19,16 +18,16 @@ use Rattle.room.proofs.get.Code as code
 module _ (w : World) where
   unfoldable body : Body! C.get 0 code.function w code.env
   body κs qs bs =
-      calcs 3 num (mul unsigned) (oAt 2 i64 nat) (oInt w64 7) (search room) ▸
-      calcs 4 sPtr offset (oFld 1 (field 0 ∷ []) (ref (claim .R) (named 0)) 0 ptrVal) (oAt 3 i64 nat) (search room) ▸
-      fetches cell 1 4 5 0 (named 0) (lease (κs .0) (qs .0)) (λ u. u .1 .1 .0) (λ x. x) (λ x. x) (search room) ▸
-      copies claim 5 0 (λ x. x) (λ x. x) (search room) ▸
-      clears (2 ∷ 3 ∷ 4 ∷ 5 ∷ []) (search room) (
+      calcs 3 num (mul unsigned) (oAt 2 i64 nat) (oInt w64 7) (search seen) ▸
+      calcs 4 sPtr offset (oFld 1 (field 0 ∷ []) (refS (claim .R) (named 0)) 0 ptrVal) (oAt 3 i64 nat) (search seen) ▸
+      peeks cell 1 4 5 0 (named 0) (lease (κs .0) (qs .0)) (λ u. u .1 .1 .0) (λ x. x) (λ x. x) (search seen) ▸
+      copies claim 5 0 (λ x. x) (λ x. x) (search seen) ▸
+      clears (2 ∷ 3 ∷ 4 ∷ 5 ∷ []) (search seen) (
       returns tt)
 
   met : Asks! C.get 0 code.function w code.env body
   unfolding body
-  met κs qs (room, (at, _)) good pre bs = (scaled-fits at _ 7 pre (good .0 .1), (tt, ((refl, refl, pre), λ _. ((refl, (tt, tt)), (refl, refl)))))
+  met κs qs (room, (at, _)) good pre bs = (scaled-fits at _ 7 pre (good .0 .1), (tt, ((refl, refl, pre), λ _. ((refl, (tt, tt)), refl))))
 
 pub get-spec : {M : Type 1} → statement M
 unfolding code.routine tablesOf
