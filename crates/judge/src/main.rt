@@ -1,20 +1,46 @@
 // The judging program: a dossier from standard input, one line out: word, number and line, parted by tabs.
+ghost use lib.ListN.{length};
+ghost use Prim.Native.Nat.{_≤_};
 
 // 65,536 bytes are enough to decide: a text that fills them is too long.
 fn main() {
     let mut text = io::large_buffer();
-    let n = io::read_full(0, &mut text);
-    if n < 65536 {
-        if !ended() {
-            io::write_all(2, b"judge: standard input can't be read\n");
-            return;
-        }
+    let r = read_all(&mut text);
+    let n = r.count;
+    if r.failed {
+        io::write_all(2, b"judge: standard input can't be read\n");
+        return;
     }
     report::print(verdict::judge_here(&text[..n]));
 }
 
-// Whether the input has come to its end. Where a read failed the next one fails too, or goes on behind a gap.
-fn ended() -> bool {
-    let mut more = [0u8; 1];
-    libc::read(0, &mut more) == 0
+// How many bytes were read, and whether a read failed.
+struct Input {
+    count: usize,
+    failed: bool,
+}
+
+// Reads from standard input until the buffer is full, the input ends or a read fails.
+fn read_all(buf: &mut [u8]) -> Input
+    ensures { λ r. ⌜ r .count ≤ length (now (buf .exit)) ⌝ }
+{
+    let mut done: usize = 0;
+    while done < buf.len() {
+        let got = libc::read(0, &mut buf[done..]);
+        if got < 0 {
+            return Input {
+                count: done,
+                failed: true,
+            };
+        }
+        let more = io::count(got, &buf[done..]);
+        if more == 0 {
+            break;
+        }
+        done += more;
+    }
+    Input {
+        count: done,
+        failed: false,
+    }
 }
