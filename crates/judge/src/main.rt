@@ -1,4 +1,5 @@
 // The judging program: a dossier from standard input, one line out: word, number and line, parted by tabs.
+use alc::Answer;
 ghost use lib.ListN.{length};
 ghost use Prim.Native.Nat.{_≤_};
 
@@ -11,7 +12,7 @@ fn main() {
         io::write_all(2, b"judge: standard input can't be read\n");
         return;
     }
-    report::print(verdict::judge_here(&text[..n]));
+    print(verdict::judge_here(&text[..n]));
 }
 
 // How many bytes were read, and whether a read failed.
@@ -43,4 +44,12 @@ fn read_all(buf: &mut [u8]) -> Input
         count: done,
         failed: false,
     }
+}
+
+// Writes the line of an answer to standard output. That it is written no contract can say.
+fn print(a: Answer) {
+    let p = report::line_of(a);
+    let bytes = p.bytes;
+    let n = p.count;
+    io::write_all(1, &bytes[..n]);
 }

@@ -1,4 +1,5 @@
 // The known dossiers, run through the library: a line for each, its name and its verdict.
+use alc::Answer;
 ghost use mathlib.Core.Path.{_≡_};
 ghost use lib.ListN.{length};
 
@@ -73,7 +74,7 @@ fn main() {
 fn show(name: &[u8], text: &[u8]) {
     io::write_all(1, name);
     io::write_all(1, b"\t");
-    report::print(verdict::judge_here(text));
+    print(verdict::judge_here(text));
 }
 
 // So many empty lines: a text of that many bytes is read, and its first line refused, unless it is too long.
@@ -88,4 +89,12 @@ fn empty_lines() -> [u8; 65536]
     ensures { λ r. ⌜ 65536 ≡ length r ⌝ }
 {
     [10; 65536]
+}
+
+// Writes the line of an answer to standard output. That it is written no contract can say.
+fn print(a: Answer) {
+    let p = report::line_of(a);
+    let bytes = p.bytes;
+    let n = p.count;
+    io::write_all(1, &bytes[..n]);
 }

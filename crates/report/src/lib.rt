@@ -78,11 +78,3 @@ pub fn line_of(a: Answer) -> Printed
         Answer::Refused(k, n) => in_columns(b"refused", k as u64, n as u64),
     }
 }
-
-// Writes the line of an answer to standard output. That it is written no contract can say.
-pub fn print(a: Answer) {
-    let p = line_of(a);
-    let bytes = p.bytes;
-    let n = p.count;
-    io::write_all(1, &bytes[..n]);
-}
