@@ -22,12 +22,12 @@ use Rattle.alc.specs.Claims.{Sided, Goal}
 use Rattle.alc.specs.Rules.{plan}
 use Rattle.alc.specs.Goals.{premises}
 use Rattle.alc.specs.Dossier.{saying}
-use Rattle.alc.specs.Shown.{Shows, tableOf}
+use Rattle.alc.specs.Shown.{records, Shows, tableOf}
 use Rattle.alc.specs.Verdict.{Verdict, proved, refused, rows, ending, judge}
 use Rattle.alc.specs.declared.Goal.{Goal as Records}
 use Rattle.alc.proofs.ShownLaws.{table-length}
 use Rattle.goals.specs.declared.Turn.{Turn}
-use Rattle.goals.specs.Records.{Leaves, none, one, two}
+use Rattle.goals.specs.Records.{premiseAt, Leaves, none, one, two}
 use Rattle.heading.specs.Parts.{inSteps, Columns}
 use Rattle.heading.proofs.Judging.{judge-end, judge-bad, judge-next, judge-refused}
 use Rattle.steps.specs.Turning.{stepIn, Turned}
@@ -119,10 +119,10 @@ module _ (text ks xs ys : List ℕ) (entries : ℕ) (s : State) (v : Ready text 
           go cs (x ∷ hs) q = absurd (omega arith)
 
       -- with a goal open, on which the line turns
-      module _ (some : s .open ≡ 0 → ⊥) (u : Turn) (d : (cs : List Sided) → Shows (s .goal) cs → Turned T entries l cs (s .open - 1) u) where
+      module _ (some : s .open ≡ 0 → ⊥) (u : Turn) (d : (cs : List Sided) → Shows (s .goal) cs → Turned T entries l cs (records (s .goal)) (s .open - 1) u) where
         -- the line's turn at the current goal x, with those of hs waiting
-        turn-here : (x : Goal) (hs : List Goal) → s .open ≡ suc (length hs) → Shows (s .goal) x → Turned T entries l x (length hs) u
-        turn-here x hs q c = let b : s .open - 1 ≡ length hs = omega arith in subst (λ (k : ℕ). Turned T entries l x k u) b (d x c)
+        turn-here : (x : Goal) (hs : List Goal) → s .open ≡ suc (length hs) → Shows (s .goal) x → Turned T entries l x (records (s .goal)) (length hs) u
+        turn-here x hs q c = let b : s .open - 1 ≡ length hs = omega arith in subst (λ (k : ℕ). Turned T entries l x (records (s .goal)) k u) b (d x c)
 
         rows-here : (cs : List Sided) (x : Goal) (hs : List Goal) → s .open ≡ suc (length hs) → Shows (s .goal) x → refusal (rows (inSteps T cs (s .steps) (x ∷ hs)) (saying l)) ≡ u .number
         rows-here cs x hs q c =
@@ -148,7 +148,7 @@ module _ (text ks xs ys : List ℕ) (entries : ℕ) (s : State) (v : Ready text 
               ∙ ap (λ S. judge (suc (s .lines)) S (linesOf (drop to text))) (after-turn T entries long-table (v .columns .few) l t (word .0) (word .1) cs (s .steps) x hs (length hs) (sym (r .number) ∙ z))
               ∙ ap₂ (λ k j. judge k (inSteps T cs j (premises (plan T (stepIn l)) x ++ hs)) (linesOf (drop to text))) (sym (add-one (s .lines))) (sym (add-one (s .steps)))
 
-          leaves : (x : Goal) (hs : List Goal) → s .open ≡ suc (length hs) → Shows (s .goal) x → Leaves u (premises (plan T (stepIn l)) x)
+          leaves : (x : Goal) (hs : List Goal) → s .open ≡ suc (length hs) → Shows (s .goal) x → Leaves (records (s .goal)) u (premises (plan T (stepIn l)) x)
           leaves x hs q c = turn-here x hs q c .leaves z
 
           -- another goal, other counts and another count of open goals, behind the line
@@ -167,49 +167,49 @@ module _ (text ks xs ys : List ℕ) (entries : ℕ) (s : State) (v : Ready text 
           }
 
           -- one premise
-          pub goes-one : u .under .count ≤ 64 → u .opens ≡ 1 → Acted text ks xs ys entries s (restingOf (tookOf p (u .under)))
-          goes-one small h = record {
-            ready = λ e. (again (u .under) (s .counts) (s .open) small (v .slots) (v .sizes) (v .few), f .later);
+          pub goes-one : (g : Records) → g .count ≤ 64 → records g ≡ premiseAt 0 u (records (s .goal)) → u .opens ≡ 1 → Acted text ks xs ys entries s (restingOf (tookOf p g))
+          goes-one g small sg h = record {
+            ready = λ e. (again g (s .counts) (s .open) small (v .slots) (v .sizes) (v .few), f .later);
             stores = λ (e : _≡_ {A = ℕ} 0 1). absurd (omega arith);
             fetches = λ (e : _≡_ {A = ℕ} 0 2). absurd (omega arith);
             acts = go;
           }
             where
-              at : (cs : List Sided) (x : Goal) (hs ps : List Goal) → Leaves u ps → whole cs (x ∷ hs) ≡ from T cs text p (ps ++ hs)
-                  → Acts T cs text s (restingOf (tookOf p (u .under))) (x ∷ hs)
+              at : (cs : List Sided) (x : Goal) (hs ps : List Goal) → Leaves (records (s .goal)) u ps → whole cs (x ∷ hs) ≡ from T cs text p (ps ++ hs)
+                  → Acts T cs text s (restingOf (tookOf p g)) (x ∷ hs)
               at cs x hs [] (none o) e = absurd (omega (arith, o, h))
-              at cs x hs (y ∷ []) (one k o sy) e = Acting.carries x y hs refl (v .going) refl refl sy e
+              at cs x hs (y ∷ []) (one k o sy) e = Acting.carries x y hs refl (v .going) refl refl (sg ∙ sy) e
               at cs x hs (y ∷ y′ ∷ []) (two a b o sa sb) e = absurd (omega (arith, o, h))
 
-              go : (cs : List Sided) (gs : List Goal) → s .open ≡ length gs → Current (s .goal) gs → Acts T cs text s (restingOf (tookOf p (u .under))) gs
+              go : (cs : List Sided) (gs : List Goal) → s .open ≡ length gs → Current (s .goal) gs → Acts T cs text s (restingOf (tookOf p g)) gs
               go cs [] q c = absurd (some q)
               go cs (x ∷ hs) q c = at cs x hs (premises (plan T (stepIn l)) x) (leaves x hs q c) (passes cs x hs q c)
 
           -- two premises
-          pub goes-two : u .under .count ≤ 64 → u .over .count ≤ 64 → u .under .count ≤ length (u .under .claims) → u .opens ≡ 2 → s .open ≤ 16
-              → Acted text ks xs ys entries s (partedOf p (u .over) (u .under))
-          goes-two small small2 full h few = record {
-            ready = λ e. (again (u .over) (set (s .counts) (s .open - 1) (u .under .count)) (s .open + 1) small2 (length-set (s .counts) (s .open - 1) (u .under .count) ∙ v .slots) sizes (omega arith), f .later);
+          pub goes-two : (g k : Records) → g .count ≤ 64 → k .count ≤ 64 → k .count ≤ length (k .claims) → records g ≡ premiseAt 0 u (records (s .goal)) → records k ≡ premiseAt 1 u (records (s .goal)) → u .opens ≡ 2 → s .open ≤ 16
+              → Acted text ks xs ys entries s (partedOf p g k)
+          goes-two g k small2 small full sg sk h few = record {
+            ready = λ e. (again g (set (s .counts) (s .open - 1) (k .count)) (s .open + 1) small2 (length-set (s .counts) (s .open - 1) (k .count) ∙ v .slots) sizes (omega arith), f .later);
             stores = λ e. (small, full, omega arith);
             fetches = λ (e : _≡_ {A = ℕ} 1 2). absurd (omega arith);
             acts = go;
           }
             where
-              sizes : (i : ℕ) → getD (set (s .counts) (s .open - 1) (u .under .count)) i 0 ≤ 64
+              sizes : (i : ℕ) → getD (set (s .counts) (s .open - 1) (k .count)) i 0 ≤ 64
               sizes i = size (ℕ-discrete i (s .open - 1))
                 where
-                  size : Dec (i ≡ s .open - 1) → getD (set (s .counts) (s .open - 1) (u .under .count)) i 0 ≤ 64
-                  size (yes e) = rw (e, getD-set-same (s .counts) (s .open - 1) (u .under .count) 0 (omega (arith, v .slots, few, some))) small
-                  size (no e) = rw (getD-set-other (s .counts) (s .open - 1) i (u .under .count) 0 e) (v .sizes i)
+                  size : Dec (i ≡ s .open - 1) → getD (set (s .counts) (s .open - 1) (k .count)) i 0 ≤ 64
+                  size (yes e) = rw (e, getD-set-same (s .counts) (s .open - 1) (k .count) 0 (omega (arith, v .slots, few, some))) small
+                  size (no e) = rw (getD-set-other (s .counts) (s .open - 1) i (k .count) 0 e) (v .sizes i)
 
-              at : (cs : List Sided) (x : Goal) (hs ps : List Goal) → s .open - 1 ≡ length hs → Leaves u ps → whole cs (x ∷ hs) ≡ from T cs text p (ps ++ hs)
-                  → Acts T cs text s (partedOf p (u .over) (u .under)) (x ∷ hs)
+              at : (cs : List Sided) (x : Goal) (hs ps : List Goal) → s .open - 1 ≡ length hs → Leaves (records (s .goal)) u ps → whole cs (x ∷ hs) ≡ from T cs text p (ps ++ hs)
+                  → Acts T cs text s (partedOf p g k) (x ∷ hs)
               at cs x hs [] q (none o) e = absurd (omega (arith, o, h))
-              at cs x hs (y ∷ []) q (one k o sy) e = absurd (omega (arith, o, h))
+              at cs x hs (y ∷ []) q (one _ o sy) e = absurd (omega (arith, o, h))
               at cs x hs (y ∷ y′ ∷ []) q (two a b o sa sb) e =
-                  Acting.parts x y y′ hs refl (v .going) refl (ap (λ (n : ℕ). n * 64) q) (ap (λ (n : ℕ). set (s .counts) n (u .under .count)) q) sa sb e
+                  Acting.parts x y y′ hs refl (v .going) refl (ap (λ (n : ℕ). n * 64) q) (ap (λ (n : ℕ). set (s .counts) n (k .count)) q) (sg ∙ sa) (sk ∙ sb) e
 
-              go : (cs : List Sided) (gs : List Goal) → s .open ≡ length gs → Current (s .goal) gs → Acts T cs text s (partedOf p (u .over) (u .under)) gs
+              go : (cs : List Sided) (gs : List Goal) → s .open ≡ length gs → Current (s .goal) gs → Acts T cs text s (partedOf p g k) gs
               go cs [] q c = absurd (some q)
               go cs (x ∷ hs) q c = at cs x hs (premises (plan T (stepIn l)) x) (omega arith) (leaves x hs q c) (passes cs x hs q c)
 
@@ -217,7 +217,7 @@ module _ (text ks xs ys : List ℕ) (entries : ℕ) (s : State) (v : Ready text 
           pub goes-none : u .opens ≡ 0 → Acted text ks xs ys entries s (closedOf p)
           goes-none h = by (ℕ-discrete (s .open - 1) 0)
             where
-              closed-at : (cs : List Sided) (x : Goal) (hs ps : List Goal) → Leaves u ps → whole cs (x ∷ hs) ≡ from T cs text p (ps ++ hs) → whole cs (x ∷ hs) ≡ from T cs text p hs
+              closed-at : (cs : List Sided) (x : Goal) (hs ps : List Goal) → Leaves (records (s .goal)) u ps → whole cs (x ∷ hs) ≡ from T cs text p (ps ++ hs) → whole cs (x ∷ hs) ≡ from T cs text p hs
               closed-at cs x hs [] (none o) e = e
               closed-at cs x hs (y ∷ []) (one k o sy) e = absurd (omega (arith, o, h))
               closed-at cs x hs (y ∷ y′ ∷ []) (two a b o sa sb) e = absurd (omega (arith, o, h))

@@ -1,6 +1,8 @@
 // The steps of a derivation, read line by line: each works on the current goal and leaves its premises. The rules come from `goals`, the
 // lines from `lines`, and no byte is seen here.
+use alc::Concept;
 use alc::Goal;
+use alc::Name;
 use goals::Entry;
 use goals::Step;
 use goals::Turn;
@@ -13,7 +15,8 @@ ghost use lib.ListN.{length, drop};
 ghost use Rattle.lines.specs.Text.{linesOf};
 ghost use Rattle.alc.specs.Claims.{Sided};
 ghost use Rattle.alc.specs.Table.{entry, entryOf};
-ghost use Rattle.alc.specs.Shown.{kindAt, tableOf, Shows as ShowsGoal, answered};
+ghost use Rattle.alc.specs.Shown.{kindAt, tableOf, records, Shows as ShowsGoal, answered};
+ghost use Rattle.goals.specs.Records.{Makes};
 ghost use Rattle.alc.specs.Verdict.{judge};
 ghost use Rattle.heading.specs.Parts.{Columns, inSteps};
 ghost use Rattle.steps.specs.Turning.{Turned};
@@ -62,14 +65,18 @@ fn turn_at(
     waiting: usize,
 ) -> Turn
     requires { ⌜ Columns (now kinds) (now firsts) (now seconds) entries × Fits (now kinds) (now firsts) (now seconds) entries × (13 ≤ l .word) × (l .word < 32) × (g .count ≤ 64) × (waiting ≤ 16) ⌝ }
-    ensures { λ r. ⌜ (((cs : List Sided) → ShowsGoal g cs → Turned (tableOf (now (kinds .entry)) (now (firsts .entry)) (now (seconds .entry)) entries) entries l cs waiting r) × (r .under .count ≤ 64) × (r .over .count ≤ 64) × (r .opens ≤ 2) × (r .number ≡ 0 → r .opens + waiting ≤ 17)) ⌝ }
+    ensures { λ r. ⌜ (((cs : List Sided) → ShowsGoal g cs → Turned (tableOf (now (kinds .entry)) (now (firsts .entry)) (now (seconds .entry)) entries) entries l cs (records g) waiting r) × (r .number ≡ 0 → Makes r g × (r .opens + waiting ≤ 17)) × (r .opens ≤ 2)) ⌝ }
 {
     if !heading::ranged(l, entries, 0) {
+        let none = alc::is(0, Name(0), Concept(0));
         return Turn {
             number: 3,
             opens: 0,
-            under: g,
-            over: g,
+            at: 0,
+            kept: 0,
+            leaves: 0,
+            first: none,
+            second: none,
         };
     }
     let s = made_step(l);
@@ -241,15 +248,15 @@ pub fn act_at(
                 return stopped(s, k, line);
             }
             let p = passed(s, line, next);
-            let under = t.under;
             if t.opens == 0 {
                 return closed(p);
             }
+            let first = turns::premise(goal, t);
             if t.opens == 1 {
-                return carried(p, under);
+                return carried(p, first);
             }
-            let over = t.over;
-            return parted(p, over, under);
+            let second = turns::other(first, t);
+            return parted(p, first, second);
         }
         Next::Bad => {
             return stopped(s, 2, line);
