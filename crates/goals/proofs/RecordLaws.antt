@@ -373,6 +373,16 @@ module _ (c d : Record) where
   added-second (suc (suc zero)) g = absurd (omega arith)
   added-second (suc (suc (suc n))) g = refl
 
+  -- how many claims come in the first premise
+  pub comes-none : (n : ℕ) → n ≡ 0 → length (getD (added n c d) 0 []) ≡ 0
+  comes-none n h = rw h
+
+  pub comes-both : (n : ℕ) → n ≡ 2 → length (getD (added n c d) 0 []) ≡ 2
+  comes-both n h = rw h
+
+  pub comes-one : (n : ℕ) → (n ≡ 0 → ⊥) → (n ≡ 2 → ⊥) → length (getD (added n c d) 0 []) ≡ 1
+  comes-one n h g = ap length (added-first n h g)
+
   pub two-opens : (n : ℕ) → length (added n c d) ≡ 2 → 3 ≤ n
   two-opens zero g = absurd (omega arith)
   two-opens (suc zero) g = absurd (omega arith)

@@ -6,9 +6,9 @@ use goals::Plan;
 use goals::Step;
 use goals::Turn;
 ghost use mathlib.Core.Path.{_≡_};
-ghost use mathlib.Core.List.{List, _++_};
+ghost use mathlib.Core.List.{List, [], _++_};
 ghost use Prim.Native.Nat.{_+_, _-_, _<_, _≤_};
-ghost use lib.ListN.{length};
+ghost use lib.ListN.{length, getD};
 ghost use mathlib.Core.Bool.{not};
 ghost use lib.Dec.{leb};
 ghost use Rattle.alc.specs.Rows.{refusal};
@@ -161,7 +161,7 @@ pub fn turn_of(g: Goal, s: Step, e: Entry, waiting: usize) -> Turn
 // The first premise that the turn makes of the goal g: the claims behind the one that goes move up, and what comes is written behind the last.
 pub fn premise(g: Goal, t: Turn) -> Goal
     requires { ⌜ (g .count ≤ 64) × Makes t g ⌝ }
-    ensures { λ r. ⌜ (records r ≡ premiseAt 0 t (records g)) × (r .count ≤ 64) × (0 < t .leaves → 0 < r .count) ⌝ }
+    ensures { λ r. ⌜ (records r ≡ premiseAt 0 t (records g)) × (r .count ≤ 64) × (r .count ≡ t .kept + length (getD (added (t .leaves) (t .first) (t .second)) 0 [])) ⌝ }
 {
     let n = t.kept;
     let mut out = g;
@@ -190,7 +190,7 @@ pub fn premise(g: Goal, t: Turn) -> Goal
 // The second of two premises, from the first: they differ in the last claim alone.
 pub fn other(g: Goal, t: Turn) -> Goal
     requires { ⌜ (0 < g .count) × (g .count ≤ 64) ⌝ }
-    ensures { λ r. ⌜ ((l : List Record) → records g ≡ premiseAt 0 t l → 3 ≤ t .leaves → records r ≡ premiseAt 1 t l) × (r .count ≡ g .count) ⌝ }
+    ensures { λ r. ⌜ ((l : List Record) → records g ≡ premiseAt 0 t l → 3 ≤ t .leaves → records r ≡ premiseAt 1 t l) × (r .count ≡ g .count) × (r .count ≤ length (r .claims)) ⌝ }
 {
     let last = g.count - 1;
     let mut out = g;

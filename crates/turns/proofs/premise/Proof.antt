@@ -6,7 +6,7 @@ use native.Mathlib.Omega.{arith}
 use lib.ListN.{length}
 use borrow.Author.Needs.{needs}
 use Rattle.alc.specs.Shown.{blank}
-use Rattle.goals.proofs.RecordLaws.{all-length, Moving, moving-none, moving-more, moves-within, room-some, room-two, premise-none, premise-one, premise-two}
+use Rattle.goals.proofs.RecordLaws.{all-length, Moving, moving-none, moving-more, moves-within, room-some, room-two, premise-none, premise-one, premise-two, comes-none, comes-one, comes-both}
 use Rattle.turns.proofs.premise.Statement.{statement}
 use Rattle.turns.proofs.premise.Tie as tie
 
@@ -44,7 +44,7 @@ returns c =
     let m = s .pre .1 in (
       premise-none (s .args .t) (s .args .g) (long s) (s .pre .0) m (l .loop .i) (l .loop .out .claims) (l .loop .inv .1) (a .loop-test .left) (c .if1 .taken),
       omega (arith, m .kept, m .place, s .pre .0),
-      λ (h : 0 < s .args .t .leaves). absurd (omega (arith, c .if1 .taken)),
+      omega (arith, comes-none (s .args .t .first) (s .args .t .second) (s .args .t .leaves) (c .if1 .taken)),
     )
 
 -- something comes, so there is room for one claim
@@ -62,7 +62,7 @@ returns-2 c =
     let s = l .before in (
       premise-two (s .args .t) (s .args .g) (long s) (s .pre .0) (s .pre .1) (l .loop .i) (l .loop .out .claims) (l .loop .inv .1) (a .loop-test .left) (c .before .if2 .taken),
       omega (arith, both (c .before)),
-      λ h. omega arith,
+      omega (arith, comes-both (s .args .t .first) (s .args .t .second) (s .args .t .leaves) (c .before .if2 .taken)),
     )
 
 returns-3 : tie.Need-returns-3 Inv-loop μ-loop
@@ -73,7 +73,7 @@ returns-3 c =
     let s = l .before in (
       premise-one (s .args .t) (s .args .g) (long s) (s .pre .0) (s .pre .1) (l .loop .i) (l .loop .out .claims) (l .loop .inv .1) (a .loop-test .left) (e .if1 .left) (c .if2 .left),
       omega (arith, some e),
-      λ h. omega arith,
+      omega (arith, comes-one (s .args .t .first) (s .args .t .second) (s .args .t .leaves) (e .if1 .left) (c .if2 .left)),
     )
 
 pub premise-spec : {M : Type 1} → statement M
