@@ -171,11 +171,6 @@ unvalued p behind f e = go (allowed p (wordOf behind f)) refl
     go true a = let w = allowed-within (wordOf behind f) p a in absurd (word-valued (wordOf behind f) w (sym (row-key behind f (wordOf behind f) (found-row behind f w)) ∙ e))
     go false a = refl
 
--- behind more than one field no word stands
-pub placed-far : (p behind : ℕ) (f : List ℕ) → 1 < behind → wordCount ≡ placed p (wordOf behind f)
-placed-far p behind f h =
-    sym (placed-nowhere p behind f (λ w t. rw (ne-eqb behind (rowOf w .behind) (λ e. omega (arith, word-behind w (allowed-within w p t))))))
-
 -- THE SIDES, by their values
 module _ (f : List ℕ) (k : ℕ) (v : Valued k 0 f) where
   is-field : (g : List ℕ) → Bytes g → (keyFrom 1 g ≡ 0 → ⊥) → k ≡ keyFrom 1 g → f ≡ g
