@@ -9,10 +9,14 @@ use native.Mathlib.Nat.{zero-add, add-zero}
 use native.Mathlib.Decide.{decLt}
 use native.Mathlib.Omega.{arith}
 use borrow.Author.Tests.{eqb-true, eqb-false, leb-true, ltb-true, eq-eqb, ne-eqb, le-leb, lt-leb}
-use Rattle.lines.specs.Text.{every, words, wordCount, rowOf, bytes, same, isRow, wordOf, allowed}
-use Rattle.lines.specs.Walk.{within, placed, Bytes, keyFrom, keyOf, seek}
+use Rattle.lines.specs.Text.{every, words, wordCount, rowOf, bytes, same, isRow, wordOf, sideOf, allowed}
+use Rattle.lines.specs.Walk.{within, placed, Bytes, keyFrom, Valued, keyOf, seek}
 use Rattle.lines.proofs.Laws.{and-left, and-right, same-eq, same-refl}
-use Rattle.lines.proofs.Words.{below, allowed-within, within-is, within-low, within-high, placed-here, placed-nowhere}
+use Rattle.lines.proofs.Words.{below, allowed-within, within-is, within-low, within-high, found-row, placed-here, placed-nowhere, side-none}
+
+not-true-false : (r : Bool) → (r ≡ true → ⊥) → r ≡ false
+not-true-false true h = absurd (h refl)
+not-true-false false h = refl
 
 -- BYTE BY BYTE
 module _ (k : ℕ) where
@@ -144,26 +148,55 @@ module _ (k : ℕ) where
       go false e (some l g p) = some (omega arith) (omega arith) p
 
 -- at a place whose words are those n
-module _ (p a n behind : ℕ) (f : List ℕ) (k : ℕ) (e : k ≡ keyFrom (behind + 1) f) (l : behind ≤ 1) (b : (k ≡ 0 → ⊥) → Bytes f) where
+module _ (p a n behind : ℕ) (f : List ℕ) (k : ℕ) (v : Valued k behind f) where
   pub placed-sought : ((w : ℕ) → allowed p w ≡ within a (a + n) w) → seek k a n ≡ placed p (wordOf behind f)
   placed-sought s = go (seek k a n) (sought k a n)
     where
-      not-here : (r : Bool) → (r ≡ true → ⊥) → r ≡ false
-      not-here true h = absurd (h refl)
-      not-here false h = refl
-
       go : (r : ℕ) → Sought k a n r → r ≡ placed p (wordOf behind f)
       go r (none q h) =
           q
           ∙ sym (placed-nowhere p behind f (λ w t.
           let i = sym (s w) ∙ t in
-          not-here (isRow behind f (rowOf w)) (λ u. h w (within-low a (a + n) w i) (within-high a (a + n) w i) (e ∙ row-key behind f w u))))
+          not-true-false (isRow behind f (rowOf w)) (λ u. h w (within-low a (a + n) w i) (within-high a (a + n) w i) (v .0 ∙ row-key behind f w u))))
       go r (some h g q) =
           let t : allowed p r ≡ true = s r ∙ within-is a (a + n) r h g in
           let w = allowed-within r p t in
-          sym (placed-here p behind f r t (key-row behind f r w l (b (λ z. word-valued r w (sym q ∙ z))) (sym e ∙ q)))
+          sym (placed-here p behind f r t (key-row behind f r w (v .1) (v .2 (λ z. word-valued r w (sym q ∙ z))) (sym (v .0) ∙ q)))
 
--- behind more than one field no word stands
-pub placed-far : (p behind : ℕ) (f : List ℕ) → 1 < behind → wordCount ≡ placed p (wordOf behind f)
-placed-far p behind f h =
-    sym (placed-nowhere p behind f (λ w t. rw (ne-eqb behind (rowOf w .behind) (λ e. omega (arith, word-behind w (allowed-within w p t))))))
+-- a field of no value is no word
+pub unvalued : (p behind : ℕ) (f : List ℕ) → keyFrom (behind + 1) f ≡ 0 → allowed p (wordOf behind f) ≡ false
+unvalued p behind f e = go (allowed p (wordOf behind f)) refl
+  where
+    go : (t : Bool) → allowed p (wordOf behind f) ≡ t → t ≡ false
+    go true a = let w = allowed-within (wordOf behind f) p a in absurd (word-valued (wordOf behind f) w (sym (row-key behind f (wordOf behind f) (found-row behind f w)) ∙ e))
+    go false a = refl
+
+-- THE SIDES, by their values
+module _ (f : List ℕ) (k : ℕ) (v : Valued k 0 f) where
+  is-field : (g : List ℕ) → Bytes g → (keyFrom 1 g ≡ 0 → ⊥) → k ≡ keyFrom 1 g → f ≡ g
+  is-field g b z e = key-same 1 1 (omega arith) (omega arith) (omega arith) (omega arith) f g (v .2 (λ q. z (sym e ∙ q))) b (sym (v .0) ∙ e) z .1
+
+  pub left-key : k ≡ 6113551988 → sideOf f ≡ 1
+  unfolding keyFrom sideOf
+  left-key e = rw (is-field (bytes "left") (to-bytes (bytes "left") refl) (λ z. omega arith) e)
+
+  pub right-key : k ≡ 1590906284148 → sideOf f ≡ 2
+  unfolding keyFrom sideOf
+  right-key e = rw (is-field (bytes "right") (to-bytes (bytes "right") refl) (λ z. omega arith) e)
+
+  pub no-side-key : (k ≡ 6113551988 → ⊥) → (k ≡ 1590906284148 → ⊥) → sideOf f ≡ 0
+  unfolding keyFrom
+  no-side-key l r = side-none f (differs (bytes "left") l) (differs (bytes "right") r)
+    where
+      differs : (g : List ℕ) → (k ≡ keyFrom 1 g → ⊥) → same f g ≡ false
+      differs g z = not-true-false (same f g) (λ t. z (v .0 ∙ ap (keyFrom 1) (same-eq f g t)))
+
+-- a side has a value
+pub side-valued : (f : List ℕ) → (sideOf f ≡ 0 → ⊥) → keyFrom 1 f ≡ 0 → ⊥
+unfolding keyFrom
+side-valued f z e = go (same f (bytes "left")) (same f (bytes "right")) refl refl
+  where
+    go : (t u : Bool) → same f (bytes "left") ≡ t → same f (bytes "right") ≡ u → ⊥
+    go true u p q = let h = sym (ap (keyFrom 1) (same-eq f (bytes "left") p)) ∙ e in omega arith
+    go false true p q = let h = sym (ap (keyFrom 1) (same-eq f (bytes "right") q)) ∙ e in omega arith
+    go false false p q = z (side-none f p q)
