@@ -50,8 +50,8 @@ pub struct Plan {
 // The kind of a plan that asks no kind of entry.
 pub const ANY: u8 = 8;
 
-// What a step does to the current goal: the refusal's number, or 0 and how its premises are made. It holds no goal, so that the one at hand is
-// copied but once.
+// What a step does to the current goal: the refusal's number, or 0 and how its premises are made. It holds no goal, since one held by value is
+// copied from hop to hop.
 pub struct Turn {
     pub number: u8,
     // how many premises there are

@@ -101,11 +101,10 @@ pub struct State {
     pub number: u8,
 }
 
-// What a line does: what it asks of the room, its turn at the current goal, and the numbers of the state behind it. It holds no goal, so that the
-// one at hand is copied but once.
+// What a line does: what it asks of the room, its turn at the current goal, and the numbers of the state behind it. Like a turn it holds no goal.
 pub struct Act {
-    // nothing is asked (0), or that the second premise is stored from `base` on (1), or that the goal of `count` claims there becomes the current
-    // one (2)
+    // nothing is asked (0), or that the second premise, of `count` claims, is stored from `base` on (1), or that the goal of `count` claims there
+    // becomes the current one (2)
     pub kind: u8,
     pub base: usize,
     pub count: usize,
