@@ -18,6 +18,18 @@ took = record { name = Q.took.Symbol.name; n = 0; ps = Q.took.Kinds.ps; r = Q.to
 pub took! : (w : World) (γ : Env) → γ Q.took.Symbol.name ≡ Q.took.Symbol.routine → Knows took w γ
 took! w γ e = Q.took.Reads.known w γ Q.took.Symbol.name Q.took.Symbol.routine e (Q.took.Met.met (w .𝓤) (w .H) (w .𝓜) (w .𝓖) (w .𝓡))
 
+abbrev pub after : Fun!
+after = record { name = Q.after.Symbol.name; n = 0; ps = Q.after.Kinds.ps; r = Q.after.Kinds.r; P = Q.after.Reads.Asked; Q = Q.after.Reads.Learnt }
+
+pub after! : (w : World) (γ : Env) → γ Q.after.Symbol.name ≡ Q.after.Symbol.routine → Knows after w γ
+after! w γ e = Q.after.Reads.known w γ Q.after.Symbol.name Q.after.Symbol.routine e (Q.after.Met.met (w .𝓤) (w .H) (w .𝓜) (w .𝓖) (w .𝓡))
+
+abbrev pub aside : Fun!
+aside = record { name = Q.aside.Symbol.name; n = 0; ps = Q.aside.Kinds.ps; r = Q.aside.Kinds.r; P = Q.aside.Reads.Asked; Q = Q.aside.Reads.Learnt }
+
+pub aside! : (w : World) (γ : Env) → γ Q.aside.Symbol.name ≡ Q.aside.Symbol.routine → Knows aside w γ
+aside! w γ e = Q.aside.Reads.known w γ Q.aside.Symbol.name Q.aside.Symbol.routine e (Q.aside.Met.met (w .𝓤) (w .H) (w .𝓜) (w .𝓖) (w .𝓡))
+
 abbrev pub kind-of : Fun!
 kind-of = record { name = P.kind_of.Symbol.name; n = 0; ps = P.kind_of.Kinds.ps; r = P.kind_of.Kinds.r; P = P.kind_of.Reads.Asked; Q = P.kind_of.Reads.Learnt }
 
@@ -35,18 +47,6 @@ count-of = record { name = P.count_of.Symbol.name; n = 0; ps = P.count_of.Kinds.
 
 pub count-of! : (w : World) (γ : Env) → γ P.count_of.Symbol.name ≡ P.count_of.Symbol.routine → Knows count-of w γ
 count-of! w γ e = P.count_of.Reads.known w γ P.count_of.Symbol.name P.count_of.Symbol.routine e (P.count_of.Met.met (w .𝓤) (w .H) (w .𝓜) (w .𝓖) (w .𝓡))
-
-abbrev pub aside-of : Fun!
-aside-of = record { name = P.aside_of.Symbol.name; n = 0; ps = P.aside_of.Kinds.ps; r = P.aside_of.Kinds.r; P = P.aside_of.Reads.Asked; Q = P.aside_of.Reads.Learnt }
-
-pub aside-of! : (w : World) (γ : Env) → γ P.aside_of.Symbol.name ≡ P.aside_of.Symbol.routine → Knows aside-of w γ
-aside-of! w γ e = P.aside_of.Reads.known w γ P.aside_of.Symbol.name P.aside_of.Symbol.routine e (P.aside_of.Met.met (w .𝓤) (w .H) (w .𝓜) (w .𝓖) (w .𝓡))
-
-abbrev pub next-of : Fun!
-next-of = record { name = P.next_of.Symbol.name; n = 0; ps = P.next_of.Kinds.ps; r = P.next_of.Kinds.r; P = P.next_of.Reads.Asked; Q = P.next_of.Reads.Learnt }
-
-pub next-of! : (w : World) (γ : Env) → γ P.next_of.Symbol.name ≡ P.next_of.Symbol.routine → Knows next-of w γ
-next-of! w γ e = P.next_of.Reads.known w γ P.next_of.Symbol.name P.next_of.Symbol.routine e (P.next_of.Met.met (w .𝓤) (w .H) (w .𝓜) (w .𝓖) (w .𝓡))
 
 abbrev pub going : Fun!
 going = record { name = P.going.Symbol.name; n = 0; ps = P.going.Kinds.ps; r = P.going.Kinds.r; P = P.going.Reads.Asked; Q = P.going.Reads.Learnt }

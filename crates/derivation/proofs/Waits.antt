@@ -3,23 +3,23 @@
 use Prim.Native.Nat.{ℕ, zero, suc, _+_, _-_, _*_, _≤_, _<_}
 use native.Mathlib.Omega.{arith}
 use mathlib.Core.Bool.{Bool, true, false, cond, false≢true}
-use mathlib.Core.List.{List, [], _∷_}
+use mathlib.Core.List.{List, [], _∷_, map}
 use mathlib.Core.Path.{_≡_, refl, sym, ap, ap₂, subst, _∙_}
 use lib.ListN.{length, getD, set, take}
 use lib.Seq.{getD-set-same, getD-set-other}
 use Rattle.alc.specs.Table.{Table}
 use Rattle.alc.specs.Claims.{Sided, Goal}
-use Rattle.alc.specs.Shown.{Shows, blank, tableOf}
+use Rattle.alc.specs.Shown.{records, recordOf, Shows, blank, tableOf}
 use Rattle.alc.specs.Verdict.{Verdict}
 use Rattle.alc.specs.declared.Claim.{Claim as Record}
 use Rattle.alc.specs.declared.Goal.{Goal as Records}
 use Rattle.room.specs.Stored.{blanks, stored, fetched, goalOf}
 use Rattle.room.proofs.Back.{copied-else, copied-same, fetched-stored}
 use Rattle.steps.specs.Acting
-use Rattle.steps.specs.Acting.{tookOf, Ready, Current, from, Acts, Acted}
+use Rattle.steps.specs.Acting.{tookOf, Ready, Current, from, secondOf, After, Aside, Acts, Leads}
 use Rattle.steps.specs.declared.State.{State}
 use Rattle.steps.specs.declared.Act.{Act}
-use Rattle.derivation.specs.Waiting.{Waiting, Rest, Stands, After, Stepped}
+use Rattle.derivation.specs.Waiting.{Waiting, Rest, Stands, Behind, Stepped}
 
 -- the goals below place k wait on in a room that is the same below it
 stays : (l m : List Record) (counts counts′ : List ℕ) (k : ℕ) → ((i : ℕ) → i < k * 64 → getD m i blank ≡ getD l i blank) → ((j : ℕ) → j < k → getD counts′ j 0 ≡ getD counts j 0)
@@ -58,25 +58,26 @@ below : (l : List Record) (counts : List ℕ) (x : Goal) (hs : List Goal) → Wa
 unfolding Waiting
 below l counts x hs w = w .1
 
-module _ (text ks xs ys : List ℕ) (entries : ℕ) (l : List Record) (s : State) (big : 1088 ≤ length l) (v : Ready text ks xs ys entries s) (a : Act) (d : Acted text ks xs ys entries s a) where
+module _ (text ks xs ys : List ℕ) (entries : ℕ) (l : List Record) (s : State) (big : 1088 ≤ length l) (v : Ready text ks xs ys entries s) (a : Act) (n : State) (f : After s a n)
+    (d : Leads text ks xs ys entries s a n) where
   abbrev T : Table
   T = tableOf ks xs ys entries
 
-  abbrev Leads : List Record → State → Type 0
-  Leads m r = (cs : List Sided) (w : Verdict) (gs : List Goal) → s .open ≡ length gs → Rest l (s .counts) gs → w ≡ from T cs text s gs → Acts T cs text s a gs → After T cs text w m r
+  abbrev Goes : List Record → State → Type 0
+  Goes m r = (cs : List Sided) (w : Verdict) (gs : List Goal) → s .open ≡ length gs → Rest l (s .counts) gs → w ≡ from T cs text s gs → Acts T cs text s a n gs → Behind T cs text w m r
 
   -- a step leads from where the derivation stands to where it stands behind the line
-  led : (m : List Record) (r : State) → Leads m r → (cs : List Sided) (w : Verdict) → Stands T cs text w l s → After T cs text w m r
+  led : (m : List Record) (r : State) → Goes m r → (cs : List Sided) (w : Verdict) → Stands T cs text w l s → Behind T cs text w m r
   led m r go cs w st = go cs w (st .goals) (st .count) (st .waiting) (st .so) (d .acts cs (st .goals) (st .count) (st .current))
 
   -- the verdict is not there yet
-  on : {cs : List Sided} {w : Verdict} {m : List Record} {r : State} → r .ended ≡ false → Stands T cs text w m r → After T cs text w m r
+  on : {cs : List Sided} {w : Verdict} {m : List Record} {r : State} → r .ended ≡ false → Stands T cs text w m r → Behind T cs text w m r
   on e st = record { there = λ f. absurd (false≢true (sym e ∙ f)); stands = λ _. st }
 
-  pub rests : (a .kind ≡ 1 → ⊥) → (a .kind ≡ 2 → ⊥) → Stepped text ks xs ys entries l s l (a .next)
-  rests not1 not2 = record { ready = d .ready; after = led l (a .next) go }
+  pub rests : (a .kind ≡ 1 → ⊥) → (a .kind ≡ 2 → ⊥) → Stepped text ks xs ys entries l s l n
+  rests not1 not2 = record { ready = d .ready; after = led l n go }
     where
-      go : Leads l (a .next)
+      go : Goes l n
       go cs w gs o q so (Acting.stops _ k e h) = record { there = λ _. h ∙ sym so; stands = λ f. absurd (false≢true (sym f ∙ e)) }
       go cs w (x ∷ hs) o q so (Acting.carries _ y _ k e p c sh h) =
           on e (record { goals = y ∷ hs; count = p ∙ o; current = sh; waiting = subst (λ (n : List ℕ). Waiting l n hs) (sym c) q; so = so ∙ h })
@@ -84,18 +85,19 @@ module _ (text ks xs ys : List ℕ) (entries : ℕ) (l : List Record) (s : State
       go cs w (x ∷ []) o q so (Acting.closes _ k e p h) = on e (record { goals = []; count = p; current = tt; waiting = tt; so = so ∙ h })
       go cs w (x ∷ y ∷ hs) o q so (Acting.takes _ _ _ k e p b n c h) = absurd (not2 k)
 
-  pub stores : (m : List Record) → a .kind ≡ 1 → m ≡ stored l (a .base) (a .aside .claims) (a .aside .count) → Stepped text ks xs ys entries l s m (a .next)
-  stores m is1 e = record { ready = d .ready; after = led m (a .next) go }
+  pub stores : (g : Records) (m : List Record) → Aside n a g → a .kind ≡ 1 → m ≡ stored l (a .base) (g .claims) (g .count) → Stepped text ks xs ys entries l s m n
+  stores g m h is1 e = record { ready = d .ready; after = led m n go }
     where
-      held : (y : Goal) (hs : List Goal) → s .open ≡ suc (length hs) → a .next .ended ≡ false → a .next .open ≡ s .open + 1 → a .base ≡ length hs * 64
-          → a .next .counts ≡ set (s .counts) (length hs) (a .aside .count) → Shows (a .aside) y → Waiting l (s .counts) hs → Waiting m (a .next .counts) (y ∷ hs)
-      held y hs o f p b c sh q =
+      held : (y : Goal) (hs : List Goal) → s .open ≡ suc (length hs) → n .ended ≡ false → n .open ≡ s .open + 1 → a .base ≡ length hs * 64
+          → n .counts ≡ set (s .counts) (length hs) (n .goal .count) → secondOf s a ≡ map recordOf y → Waiting l (s .counts) hs → Waiting m (n .counts) (y ∷ hs)
+      held y hs o z p b c sh q =
           let fit = d .stores is1 in
-          subst (λ (t : List Record). Waiting t (a .next .counts) (y ∷ hs)) (sym (e ∙ ap (λ (n : ℕ). stored l n (a .aside .claims) (a .aside .count)) b))
-          (subst (λ (n : List ℕ). Waiting (stored l (length hs * 64) (a .aside .claims) (a .aside .count)) n (y ∷ hs)) (sym c)
-          (pushed l (s .counts) (a .aside) y hs (v .slots) (omega (arith, o, p, d .ready f .0 .few)) (v .sizes) (fit .0) (fit .1) (omega (arith, fit .2, b, big)) sh q))
+          let small : g .count ≤ 64 = omega (arith, h .count, fit .1) in
+          subst (λ (t : List Record). Waiting t (n .counts) (y ∷ hs)) (sym (e ∙ ap (λ (k : ℕ). stored l k (g .claims) (g .count)) b))
+          (subst (λ (k : List ℕ). Waiting (stored l (length hs * 64) (g .claims) (g .count)) k (y ∷ hs)) (sym (c ∙ ap (set (s .counts) (length hs)) (sym (h .count))))
+          (pushed l (s .counts) g y hs (v .slots) (omega (arith, o, p, d .ready z .0 .few)) (v .sizes) small (h .full) (omega (arith, fit .3, b, big)) (h .goal (records (s .goal)) (f .goal) (fit .2) ∙ sh) q))
 
-      go : Leads m (a .next)
+      go : Goes m n
       go cs w gs o q so (Acting.stops _ k f h) = absurd (omega (arith, k, is1))
       go cs w (x ∷ hs) o q so (Acting.carries _ y _ k f p c sh h) = absurd (omega (arith, k, is1))
       go cs w (x ∷ hs) o q so (Acting.parts _ y z _ k f p b c sh sh′ h) =
@@ -103,10 +105,10 @@ module _ (text ks xs ys : List ℕ) (entries : ℕ) (l : List Record) (s : State
       go cs w (x ∷ []) o q so (Acting.closes _ k f p h) = absurd (omega (arith, k, is1))
       go cs w (x ∷ y ∷ hs) o q so (Acting.takes _ _ _ k f p b n c h) = absurd (omega (arith, k, is1))
 
-  pub fetches : (g : Records) → a .kind ≡ 2 → g ≡ goalOf (fetched l (a .base) (a .count)) (a .count) → Stepped text ks xs ys entries l s l (tookOf (a .next) g)
-  fetches g is2 e = record { ready = λ f. let r = d .ready f in (taken (r .0), r .1); after = led l (tookOf (a .next) g) go }
+  pub fetches : (g : Records) → a .kind ≡ 2 → g ≡ goalOf (fetched l (a .base) (a .count)) (a .count) → Stepped text ks xs ys entries l s l (tookOf n g)
+  fetches g is2 e = record { ready = λ f. let r = d .ready f in (taken (r .0), r .1); after = led l (tookOf n g) go }
     where
-      taken : Ready text ks xs ys entries (a .next) → Ready text ks xs ys entries (tookOf (a .next) g)
+      taken : Ready text ks xs ys entries n → Ready text ks xs ys entries (tookOf n g)
       taken r = record {
         columns = r .columns;
         fits = r .fits;
@@ -119,7 +121,7 @@ module _ (text ks xs ys : List ℕ) (entries : ℕ) (l : List Record) (s : State
         counted = r .counted;
       }
 
-      go : Leads l (tookOf (a .next) g)
+      go : Goes l (tookOf n g)
       go cs w gs o q so (Acting.stops _ k f h) = absurd (omega (arith, k, is2))
       go cs w (x ∷ hs) o q so (Acting.carries _ y _ k f p c sh h) = absurd (omega (arith, k, is2))
       go cs w (x ∷ hs) o q so (Acting.parts _ y z _ k f p b c sh sh′ h) = absurd (omega (arith, k, is2))
@@ -148,7 +150,7 @@ fewer text s r e h = rw e (go (r .ended) refl)
 pub record Holds (text ks xs ys : List ℕ) (entries : ℕ) (l : List Record) (s : State) (m : List Record) (r : State) : Type 0 where
   pub long : length m ≡ length l
   pub ready : r .ended ≡ false → Ready text ks xs ys entries r
-  pub after : (cs : List Sided) (w : Verdict) → Stands (tableOf ks xs ys entries) cs text w l s → After (tableOf ks xs ys entries) cs text w m r
+  pub after : (cs : List Sided) (w : Verdict) → Stands (tableOf ks xs ys entries) cs text w l s → Behind (tableOf ks xs ys entries) cs text w m r
 
 module _ (text ks xs ys : List ℕ) (entries : ℕ) (l : List Record) (s : State) where
   pub holds-first : Ready text ks xs ys entries s → Holds text ks xs ys entries l s l s

@@ -33,11 +33,11 @@ pub record Stands (T : Table) (cs : List Sided) (text : List ℕ) (v : Verdict) 
   pub so : v ≡ from T cs text s goals
 
 -- behind a line the verdict is there, or the derivation stands
-pub record After (T : Table) (cs : List Sided) (text : List ℕ) (v : Verdict) (l : List Record) (s : State) : Type 0 where
+pub record Behind (T : Table) (cs : List Sided) (text : List ℕ) (v : Verdict) (l : List Record) (s : State) : Type 0 where
   pub there : s .ended ≡ true → verdictIn s ≡ v
   pub stands : s .ended ≡ false → Stands T cs text v l s
 
 -- a line at the state s with the room l leaves the state r with the room m
 pub record Stepped (text ks xs ys : List ℕ) (entries : ℕ) (l : List Record) (s : State) (m : List Record) (r : State) : Type 0 where
   pub ready : r .ended ≡ false → Ready text ks xs ys entries r × (s .at < r .at)
-  pub after : (cs : List Sided) (v : Verdict) → Stands (tableOf ks xs ys entries) cs text v l s → After (tableOf ks xs ys entries) cs text v m r
+  pub after : (cs : List Sided) (v : Verdict) → Stands (tableOf ks xs ys entries) cs text v l s → Behind (tableOf ks xs ys entries) cs text v m r

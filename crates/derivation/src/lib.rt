@@ -2,7 +2,6 @@
 // value, and the functions here only do it to the room.
 use alc::Answer;
 use alc::Claim;
-use alc::Goal;
 use steps::Act;
 use steps::State;
 ghost use mathlib.Core.Path.{_≡_};
@@ -36,20 +35,6 @@ fn count_of(a: Act) -> usize
     ensures { λ r. ⌜ r ≡ a .count ⌝ }
 {
     a.count
-}
-
-// The goal that is put aside.
-fn aside_of(a: Act) -> Goal
-    ensures { λ r. ⌜ r ≡ a .aside ⌝ }
-{
-    a.aside
-}
-
-// The state behind the line.
-fn next_of(a: Act) -> State
-    ensures { λ r. ⌜ r ≡ a .next ⌝ }
-{
-    a.next
 }
 
 // Whether lines are still read.
@@ -91,9 +76,9 @@ fn step(
 {
     let a = steps::act_at(text, kinds, firsts, seconds, entries, s);
     let k = kind_of(a);
-    let next = next_of(a);
+    let next = steps::after(s, a);
     if k == 1 {
-        room::store(room, base_of(a), aside_of(a));
+        room::store(room, base_of(a), steps::aside(next, a));
         return next;
     }
     if k == 2 {

@@ -6,14 +6,14 @@ use native.Mathlib.Nat.{le-refl, not-suc-le-zero}
 use native.Mathlib.Numerals.{add-one}
 use native.Mathlib.Decide.{ℕ-discrete, decLt}
 use mathlib.Core.Bool.{Bool, true, false, not, cond, _&&_, _||_, decide, false≢true}
-use mathlib.Core.List.{List, [], _∷_, _++_}
+use mathlib.Core.List.{List, [], _∷_, _++_, append-nil, append-assoc}
 use mathlib.Core.Path.{_≡_, refl, sym, ap, ap₂, _∙_}
 use lib.Dec.{eqb, ltb, leb}
 use lib.ListN.{length, getD, take, drop, set, drop-of-length-le, length-map, length-append, length-drop, length-set, List·getD-append}
 use mir.Val.{Val}
 use denote.Laws.{Is}
 use denote.Struct.Declared as declared
-use lib.Seq.{drop-cons, getD-take, getD-drop, getD-append-add, getD-set-same, getD-set-other, length-take-le, ext-getD}
+use lib.Seq.{drop-cons, getD-take, getD-drop, getD-append-add, getD-set-same, getD-set-other, length-take-le, take-all, take-take, take-suc-set, take-append-seam, ext-getD}
 use borrow.Author.Tests.{eqb-true, eq-eqb, ne-eqb, lt-ltb, le-ltb, ltb-true, le-leb, leb-true}
 use Rattle.alc.specs.Lists.{any, every, firstAt}
 use Rattle.alc.specs.Rows.{refusal}
@@ -24,7 +24,8 @@ use Rattle.alc.specs.declared.Claim.{Claim as Record}
 use Rattle.alc.specs.declared.Goal.{Goal as Records}
 use Rattle.alc.proofs.Goal.{the-type}
 use Rattle.goals.specs.declared.Plan.{Plan as Planned}
-use Rattle.goals.specs.Records.{numbers, equal, sameRecord, hasName, lacking, keeping, asks, upTo, newsBy, added, recordRows}
+use Rattle.goals.specs.declared.Turn.{Turn}
+use Rattle.goals.specs.Records.{numbers, equal, sameRecord, hasName, lacking, keeping, asks, upTo, newsBy, added, recordRows, cutAt, premiseAt, Makes}
 
 pub and-left : (a b : Bool) → (a && b) ≡ true → a ≡ true
 and-left true b h = refl
@@ -77,11 +78,11 @@ module _ (c d : Record) where
   unfolding sameRecord
   eq-same e = rw e (eq-equal (numbers d))
 
-  -- where the first six numbers agree the last decides
-  pub same-last : c .kind ≡ d .kind → c .side ≡ d .side → c .role .0 ≡ d .role .0 → c .a .0 ≡ d .a .0 → c .b .0 ≡ d .b .0 → c .i .0 ≡ d .i .0
-      → eqb (c .j .0) (d .j .0) ≡ sameRecord c d
+  -- where all the other numbers agree the role decides
+  pub same-last : c .kind ≡ d .kind → c .side ≡ d .side → c .a .0 ≡ d .a .0 → c .b .0 ≡ d .b .0 → c .i .0 ≡ d .i .0 → c .j .0 ≡ d .j .0
+      → eqb (c .role .0) (d .role .0) ≡ sameRecord c d
   unfolding sameRecord
-  same-last k s r a b i = rw (eq-eqb _ _ k, eq-eqb _ _ s, eq-eqb _ _ r, eq-eqb _ _ a, eq-eqb _ _ b, eq-eqb _ _ i) (and-end (eqb (c .j .0) (d .j .0)))
+  same-last k s a b i j = rw (eq-eqb _ _ k, eq-eqb _ _ s, eq-eqb _ _ a, eq-eqb _ _ b, eq-eqb _ _ i, eq-eqb _ _ j) (and-end (eqb (c .role .0) (d .role .0)))
 
 -- which names a record has, by its kind
 or-end : (b : Bool) → b ≡ (b || false)
@@ -244,6 +245,47 @@ module _ (c : Record) where
       go true g e = absurd (not-suc-le-zero g)
       go false g e = ap (λ (r : List Record). d ∷ r) (e (omega arith))
 
+-- the first that passes is one of them, or their count
+pub first-most : {A : Type 0} (p : A → Bool) (l : List A) → firstAt p l ≤ length l
+first-most p [] = omega arith
+first-most p (x ∷ l) = go (p x) (first-most p l)
+  where
+    go : (b : Bool) → firstAt p l ≤ length l → cond b 0 (suc (firstAt p l)) ≤ suc (length l)
+    go true h = omega arith
+    go false h = omega arith
+
+-- without the record at a place
+pub cut-all : (l : List Record) (at : ℕ) → length l ≤ at → cutAt at l ≡ l
+cut-all l at h = rw (take-all at l h, drop-of-length-le l {i = at + 1} (omega arith)) (append-nil l)
+
+pub cut-length : (l : List Record) (at : ℕ) → at ≤ length l → length (cutAt at l) ≡ at + (length l - (at + 1))
+cut-length l at h = rw (length-append (take at l) (drop (at + 1) l), length-take-le at l h, length-drop (at + 1) l)
+
+pub cut-lacking : (c : Record) (l : List Record) → cutAt (firstAt (sameRecord c) l) l ≡ lacking c l
+cut-lacking c l = go (decLt (firstAt (sameRecord c) l) (length l))
+  where
+    go : Dec (firstAt (sameRecord c) l < length l) → cutAt (firstAt (sameRecord c) l) l ≡ lacking c l
+    go (yes h) = sym (lacking-at c l h)
+    go (no h) = let k : length l ≤ firstAt (sameRecord c) l = omega arith in cut-all l _ k ∙ lacking-none c l k
+
+-- the records that are moved up are those without the one at the place
+module _ {A : Type 0} (d : A) (l : List A) (at i : ℕ) (out : List A) (m : Moving d l at i out) (n kept : ℕ) where
+  pub moving-cut : at ≤ n → n ≤ length l → kept ≡ at + (n - (at + 1)) → kept ≤ i → take kept out ≡ take at (take n l) ++ drop (at + 1) (take n l)
+  moving-cut h few k done = go (decLt at n)
+    where
+      same : n ≤ at → (j : ℕ) → j < length (take n out) → getD (take n out) j d ≡ getD (take n l) j d
+      same q j g = let b : j < n = omega (arith, length-take-le n out (rw (m .long) few)) in getD-take n out j d b ∙ m .before j (omega arith) ∙ sym (getD-take n l j d b)
+
+      go : Dec (at < n) → take kept out ≡ take at (take n l) ++ drop (at + 1) (take n l)
+      go (yes g) = let e : kept ≡ n - 1 = omega arith in ap (λ (j : ℕ). take j out) e ∙ moving-done d l at i out m n g few (omega arith)
+      go (no g) =
+          let e : kept ≡ n = omega arith in
+          let f : at ≡ n = omega arith in
+          let long = length-take-le n l few in
+          ap (λ (j : ℕ). take j out) e
+          ∙ ext-getD d (take n out) (take n l) (length-take-le n out (rw (m .long) few) ∙ sym long) (same (omega arith))
+          ∙ sym (rw (f, take-all n (take n l) (rw long (omega arith)), drop-of-length-le (take n l) {i = n + 1} (rw long (omega arith))) (append-nil (take n l)))
+
 -- none, one or both of two records
 module _ (f : Record → Bool) (c d : Record) where
   pub every-no : (n : ℕ) → (n ≡ 0 → ⊥) → f c ≡ false → false ≡ every f (upTo n c d)
@@ -331,6 +373,16 @@ module _ (c d : Record) where
   added-second (suc (suc zero)) g = absurd (omega arith)
   added-second (suc (suc (suc n))) g = refl
 
+  -- how many claims come in the first premise
+  pub comes-none : (n : ℕ) → n ≡ 0 → length (getD (added n c d) 0 []) ≡ 0
+  comes-none n h = rw h
+
+  pub comes-both : (n : ℕ) → n ≡ 2 → length (getD (added n c d) 0 []) ≡ 2
+  comes-both n h = rw h
+
+  pub comes-one : (n : ℕ) → (n ≡ 0 → ⊥) → (n ≡ 2 → ⊥) → length (getD (added n c d) 0 []) ≡ 1
+  comes-one n h g = ap length (added-first n h g)
+
   pub two-opens : (n : ℕ) → length (added n c d) ≡ 2 → 3 ≤ n
   two-opens zero g = absurd (omega arith)
   two-opens (suc zero) g = absurd (omega arith)
@@ -356,6 +408,9 @@ module _ (c d : Record) where
         let s : length (k ++ l) ≡ m + length l = length-append k l ∙ ap (λ j. j + length l) e in
         bool-by (ltb m b) (leb (length (k ++ l)) 64) (λ t. le-leb (length (k ++ l)) 64 (omega (arith, ltb-true m b t)))
         (λ t. lt-ltb m b (omega (arith, leb-true (length (k ++ l)) 64 t)))
+
+    pub fits-none : (n : ℕ) → n ≡ 0 → true ≡ every (λ l. leb (length (k ++ l)) 64) (added n c d)
+    fits-none n h = rw h
 
     pub fits-two : (n : ℕ) → n ≡ 2 → ltb m 63 ≡ every (λ l. leb (length (k ++ l)) 64) (added n c d)
     fits-two n h = rw h (and-end (ltb m 63) ∙ ap (λ b. b && true) (long (c ∷ d ∷ []) 63 refl))
@@ -425,3 +480,71 @@ few-open zero c d = omega arith
 few-open (suc zero) c d = omega arith
 few-open (suc (suc zero)) c d = omega arith
 few-open (suc (suc (suc n))) c d = omega arith
+
+-- a premise, written behind what is kept: nothing, one claim or two
+module _ (t : Turn) (g : Records) (long : length (g .claims) ≡ 64) (few : g .count ≤ 64) (m : Makes t g) where
+  cut-kept : length (cutAt (t .at) (records g)) ≡ t .kept
+  cut-kept =
+      let e : length (records g) ≡ g .count = length-take-le (g .count) (g .claims) (omega (arith, long)) in
+      cut-length (records g) (t .at) (rw e (m .place)) ∙ ap (λ n. t .at + (n - (t .at + 1))) e ∙ sym (m .kept)
+
+  pub room-one : (t .leaves ≡ 0 → ⊥) → (t .leaves ≡ 2 → ⊥) → t .kept < 64
+  room-one h k = ltb-true (t .kept) 64 (fits-one (t .first) (t .second) (cutAt (t .at) (records g)) (t .kept) cut-kept (t .leaves) h k ∙ m .room)
+
+  pub room-two : t .leaves ≡ 2 → t .kept < 63
+  room-two h = ltb-true (t .kept) 63 (fits-two (t .first) (t .second) (cutAt (t .at) (records g)) (t .kept) cut-kept (t .leaves) h ∙ m .room)
+
+  pub room-some : (t .leaves ≡ 0 → ⊥) → t .kept < 64
+  room-some h = go (ℕ-discrete (t .leaves) 2)
+    where
+      go : Dec (t .leaves ≡ 2) → t .kept < 64
+      go (yes e) = omega (arith, room-two e)
+      go (no e) = room-one h e
+
+  -- in the loop: the place is before the last claim
+  pub moves-within : (i : ℕ) → t .at ≤ i → i < t .kept → i + 1 < 64
+  moves-within i h l = omega (arith, m .kept, m .place)
+
+  module _ (i : ℕ) (out : List Record) (v : Moving blank (g .claims) (t .at) i out) (done : t .kept ≤ i) where
+    base : take (t .kept) out ≡ cutAt (t .at) (records g)
+    base = moving-cut blank (g .claims) (t .at) i out v (g .count) (t .kept) (m .place) (omega (arith, long)) (m .kept) done
+
+    pub premise-none : t .leaves ≡ 0 → take (t .kept) out ≡ premiseAt 0 t (records g)
+    premise-none h = base ∙ rw (added-none (t .first) (t .second) (t .leaves) h) (sym (append-nil (cutAt (t .at) (records g))))
+
+    abbrev once : List Record
+    once = set out (t .kept) (t .first)
+
+    one-more : t .kept < 64 → take (t .kept + 1) once ≡ cutAt (t .at) (records g) ++ (t .first ∷ [])
+    one-more h = rw (add-one (t .kept)) (take-suc-set out (t .kept) (t .first) (omega (arith, v .long, long))) ∙ ap (λ r. r ++ (t .first ∷ [])) base
+
+    pub premise-one : (t .leaves ≡ 0 → ⊥) → (t .leaves ≡ 2 → ⊥) → take (t .kept + 1) once ≡ premiseAt 0 t (records g)
+    premise-one h k = one-more (room-one h k) ∙ ap (λ r. cutAt (t .at) (records g) ++ r) (sym (added-first (t .first) (t .second) (t .leaves) h k))
+
+    pub premise-two : t .leaves ≡ 2 → take (t .kept + 2) (set once (t .kept + 1) (t .second)) ≡ premiseAt 0 t (records g)
+    premise-two h =
+        let l = room-two h in
+        let e : t .kept + 2 ≡ suc (t .kept + 1) = omega arith in
+        ap (λ n. take n (set once (t .kept + 1) (t .second))) e
+        ∙ take-suc-set once (t .kept + 1) (t .second) (omega (arith, length-set out (t .kept) (t .first), v .long, long))
+        ∙ ap (λ r. r ++ (t .second ∷ [])) (one-more (omega arith))
+        ∙ append-assoc (cutAt (t .at) (records g)) (t .first ∷ []) (t .second ∷ [])
+        ∙ rw (added-both (t .first) (t .second) (t .leaves) h)
+
+-- the second of two premises, from the first: their last claims differ
+pub last-other : (t : Turn) (g : Records) → length (g .claims) ≡ 64 → g .count ≤ 64 → 0 < g .count → (l : List Record) → records g ≡ premiseAt 0 t l → 3 ≤ t .leaves
+    → take (g .count) (set (g .claims) (g .count - 1) (t .second)) ≡ premiseAt 1 t l
+last-other t g long few some l e h =
+    let n = g .count - 1 in
+    let s : g .count ≡ suc n = omega arith in
+    let first : records g ≡ cutAt (t .at) l ++ (t .first ∷ []) = e ∙ ap (λ r. cutAt (t .at) l ++ r) (added-first (t .first) (t .second) (t .leaves) (λ z. omega arith) (λ z. omega arith)) in
+    let size : length (cutAt (t .at) l) ≡ n =
+    let a : length (records g) ≡ g .count = length-take-le (g .count) (g .claims) (omega (arith, long)) in
+    let b : length (cutAt (t .at) l ++ (t .first ∷ [])) ≡ length (cutAt (t .at) l) + 1 = length-append (cutAt (t .at) l) (t .first ∷ []) in
+    omega (arith, a, b, ap length first) in
+    let front : take n (g .claims) ≡ cutAt (t .at) l =
+    sym (take-take n (g .count) (g .claims) (omega arith)) ∙ ap (take n) first ∙ ap (λ k. take k (cutAt (t .at) l ++ (t .first ∷ []))) (sym size) ∙ take-append-seam (cutAt (t .at) l) (t .first ∷ []) in
+    ap (λ k. take k (set (g .claims) n (t .second))) s
+    ∙ take-suc-set (g .claims) n (t .second) (omega (arith, long))
+    ∙ ap (λ r. r ++ (t .second ∷ [])) front
+    ∙ ap (λ r. cutAt (t .at) l ++ r) (sym (added-second (t .first) (t .second) (t .leaves) h))

@@ -17,12 +17,12 @@ use Rattle.alc.specs.Table.{Table}
 use Rattle.alc.specs.Claims.{is, sub, link, Claim-discrete, Sided, left, right, Sided-discrete, Goal, same, has, without}
 use Rattle.alc.specs.Rules.{Step, stepFields, Plan, plan}
 use Rattle.alc.specs.Goals.{avoids, areNew, rest, premises, stepRows}
-use Rattle.alc.specs.Shown.{recordOf, kindAt, Shows}
+use Rattle.alc.specs.Shown.{recordOf, kindAt}
 use Rattle.alc.proofs.ShownLaws.{record-once}
 use Rattle.alc.specs.declared.Claim.{Claim as Record}
 use Rattle.goals.specs.declared.Plan.{Plan as Planned}
 use Rattle.goals.specs.declared.Turn.{Turn}
-use Rattle.goals.specs.Records.{sameRecord, hasName, lacking, keeping, asks, upTo, newsBy, added, recordRows, ruleRows, Plans, Leaves, none, one, two}
+use Rattle.goals.specs.Records.{sameRecord, hasName, lacking, keeping, asks, upTo, newsBy, added, recordRows, ruleRows, premiseAt, Plans, Leaves, none, one, two}
 use Rattle.goals.proofs.RecordLaws.{bool-by, same-eq, eq-same}
 
 same-record : (s t : Sided) → sameRecord (recordOf s) (recordOf t) ≡ same s t
@@ -207,9 +207,9 @@ module _ (kind : ℕ) (p : Planned) (g k : List Record) (w : ℕ) (e : refusal (
       eleven h = omega arith
 
 -- the premises of a turn, by their count
-pub leaves-of : (t : Turn) (ps : List Goal) → t .opens ≡ length ps → length ps ≤ 2
-    → (1 ≤ length ps → Shows (t .over) (getD ps 0 [])) → (length ps ≡ 1 → Shows (t .under) (getD ps 0 [])) → (length ps ≡ 2 → Shows (t .under) (getD ps 1 [])) → Leaves t ps
-leaves-of t [] e l o u v = none e
-leaves-of t (h ∷ []) e l o u v = one h e (u refl)
-leaves-of t (h ∷ k ∷ []) e l o u v = two h k e (o (omega arith)) (v refl)
-leaves-of t (h ∷ k ∷ m ∷ ps) e l o u v = absurd (omega arith)
+pub leaves-of : (l : List Record) (t : Turn) (ps : List Goal) → t .opens ≡ length ps → length ps ≤ 2
+    → ((i : ℕ) → i < length ps → premiseAt i t l ≡ map recordOf (getD ps i [])) → Leaves l t ps
+leaves-of l t [] e few f = none e
+leaves-of l t (h ∷ []) e few f = one h e (f 0 (omega arith))
+leaves-of l t (h ∷ k ∷ []) e few f = two h k e (f 0 (omega arith)) (f 1 (omega arith))
+leaves-of l t (h ∷ k ∷ m ∷ ps) e few f = absurd (omega arith)

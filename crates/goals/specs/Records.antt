@@ -1,11 +1,11 @@
 -- Lists of claim records: when two are the same, which names one has, and how a rule's plan is shown by records.
 -- Assumes nothing.
-use Prim.Native.Nat.{ℕ, _+_}
+use Prim.Native.Nat.{ℕ, _+_, _-_, _≤_}
 use mathlib.Core.Bool.{Bool, true, false, not, cond, decide, _&&_, _||_}
 use mathlib.Core.List.{List, [], _∷_, _++_, map}
 use mathlib.Core.Path.{_≡_}
 use lib.Dec.{eqb, ltb, leb}
-use lib.ListN.{length, getD}
+use lib.ListN.{length, getD, take, drop}
 use Rattle.alc.specs.Lists.{any, every}
 use Rattle.alc.specs.Rows.{Row, row, refusal}
 use Rattle.alc.specs.Table.{Kind, Kind-discrete}
@@ -13,8 +13,9 @@ use Rattle.alc.specs.Claims.{Goal, has}
 use Rattle.alc.specs.Rules
 use Rattle.alc.specs.Rules.{Step, Plan}
 use Rattle.alc.specs.Goals.{areNew, premises}
-use Rattle.alc.specs.Shown.{Shows, recordOf, kindAt}
+use Rattle.alc.specs.Shown.{records, recordOf, kindAt}
 use Rattle.alc.specs.declared.Claim.{Claim as Record}
+use Rattle.alc.specs.declared.Goal.{Goal as Records}
 use Rattle.alc.specs.declared.Name.{Name}
 use Rattle.goals.specs.declared.Plan.{Plan as Planned}
 use Rattle.goals.specs.declared.Turn.{Turn}
@@ -139,13 +140,29 @@ ruleRows p g w =
     ∷ row 11 (leb (length (premises p g) + w) 17)
     ∷ []
 
--- the premises that a turn leaves: none, one, or two, of which the first is worked on and the second waits under it
-pub data Leaves (t : Turn) : List Goal → Type 0 where
-  none : t .opens ≡ 0 → Leaves t []
-  one : (h : Goal) → t .opens ≡ 1 → Shows (t .under) h → Leaves t (h ∷ [])
-  two : (h k : Goal) → t .opens ≡ 2 → Shows (t .over) h → Shows (t .under) k → Leaves t (h ∷ k ∷ [])
+-- the records without the one at a place; all of them where the place is behind the last
+abbrev pub cutAt : ℕ → List Record → List Record
+cutAt at l = take at l ++ drop (at + 1) l
 
--- what a step does at the goal cs, with w goals waiting: the number of the first row that it does not pass, and its premises where it passes all
-pub record Turns (q : Plan) (cs : Goal) (w : ℕ) (t : Turn) : Type 0 where
+-- the records of the premise i that a turn makes of the records l
+abbrev pub premiseAt : ℕ → Turn → List Record → List Record
+premiseAt i t l = cutAt (t .at) l ++ getD (added (t .leaves) (t .first) (t .second)) i []
+
+-- the turn's premises can be made of the goal g: the place and the count are right, and there is room
+pub record Makes (t : Turn) (g : Records) : Type 0 where
+  pub place : t .at ≤ g .count
+  pub kept : t .kept ≡ t .at + (g .count - (t .at + 1))
+  pub room : every (λ l. leb (length (cutAt (t .at) (records g) ++ l)) 64) (added (t .leaves) (t .first) (t .second)) ≡ true
+  pub opens : t .opens ≡ length (added (t .leaves) (t .first) (t .second))
+
+-- the premises that a turn leaves of the records l: none, one, or two, of which the first is worked on and the second waits under it
+pub data Leaves (l : List Record) (t : Turn) : List Goal → Type 0 where
+  none : t .opens ≡ 0 → Leaves l t []
+  one : (h : Goal) → t .opens ≡ 1 → premiseAt 0 t l ≡ map recordOf h → Leaves l t (h ∷ [])
+  two : (h k : Goal) → t .opens ≡ 2 → premiseAt 0 t l ≡ map recordOf h → premiseAt 1 t l ≡ map recordOf k → Leaves l t (h ∷ k ∷ [])
+
+-- what a step does at the goal cs, whose records are l, with w goals waiting: the number of the first row that it does not pass, and its premises
+-- where it passes all
+pub record Turns (q : Plan) (cs : Goal) (l : List Record) (w : ℕ) (t : Turn) : Type 0 where
   pub number : t .number ≡ refusal (ruleRows q cs w)
-  pub leaves : t .number ≡ 0 → Leaves t (premises q cs)
+  pub leaves : t .number ≡ 0 → Leaves l t (premises q cs)

@@ -1,4 +1,4 @@
-// Goals as lists of claim records: what stands in a goal, one claim more, one less. A goal goes in by value and comes back by value.
+// Goals as lists of claim records: what stands in a goal, and one claim more. A goal goes in by value and comes back by value.
 // The records that the rules speak of stand here too: a line of the table, a step, a plan and a turn.
 use alc::Claim;
 use alc::Concept;
@@ -6,13 +6,12 @@ use alc::Goal;
 use alc::Name;
 ghost use mathlib.Core.Path.{_≡_};
 ghost use mathlib.Core.List.{[], _∷_, _++_};
-ghost use Prim.Native.Nat.{_+_, _<_, _≤_};
-ghost use lib.ListN.{take, drop};
+ghost use Prim.Native.Nat.{_+_, _≤_};
 ghost use mathlib.Core.Bool.{cond};
 ghost use lib.Dec.{ltb};
 ghost use Rattle.alc.specs.Lists.{any, firstAt};
 ghost use Rattle.alc.specs.Shown.{records};
-ghost use Rattle.goals.specs.Records.{sameRecord, hasName, lacking};
+ghost use Rattle.goals.specs.Records.{sameRecord, hasName};
 
 // A line of the table: its kind's number, from 0 `top` to 7 `all`, and its two numbers.
 pub struct Entry {
@@ -51,42 +50,49 @@ pub struct Plan {
 // The kind of a plan that asks no kind of entry.
 pub const ANY: u8 = 8;
 
-// What a step does to the current goal: the refusal's number, or 0 and how many premises it leaves. The one that waits, or the only one,
-// is `under`; the first of two is `over`.
+// What a step does to the current goal: the refusal's number, or 0 and how its premises are made. It holds no goal, since one held by value is
+// copied from hop to hop.
 pub struct Turn {
     pub number: u8,
+    // how many premises there are
     pub opens: usize,
-    pub under: Goal,
-    pub over: Goal,
+    // the place of the claim that goes, or the count of the claims where none does
+    pub at: usize,
+    // how many claims stay
+    pub kept: usize,
+    // what comes, as in the plan
+    pub leaves: u8,
+    pub first: Claim,
+    pub second: Claim,
 }
 
-// Whether two records are equal.
+// Whether two records are equal. The numbers that differ most often come first.
 fn same(c: Claim, d: Claim) -> bool
     ensures { λ r. ⌜ r ≡ sameRecord c d ⌝ }
 {
-    if c.kind != d.kind {
-        return false;
-    }
-    if c.side != d.side {
-        return false;
-    }
-    if c.role.0 != d.role.0 {
+    if c.i.0 != d.i.0 {
         return false;
     }
     if c.a.0 != d.a.0 {
         return false;
     }
+    if c.side != d.side {
+        return false;
+    }
+    if c.kind != d.kind {
+        return false;
+    }
+    if c.j.0 != d.j.0 {
+        return false;
+    }
     if c.b.0 != d.b.0 {
         return false;
     }
-    if c.i.0 != d.i.0 {
-        return false;
-    }
-    c.j.0 == d.j.0
+    c.role.0 == d.role.0
 }
 
 // The place of the goal's first copy of a claim, or its count.
-fn find(g: Goal, c: Claim) -> usize
+pub fn find(g: Goal, c: Claim) -> usize
     requires { ⌜ g .count ≤ 64 ⌝ }
     ensures { λ r. ⌜ r ≡ firstAt (sameRecord c) (records g) ⌝ }
 {
@@ -167,33 +173,4 @@ pub fn with(g: Goal, c: Claim) -> Goal
     out.claims[n] = c;
     out.count = n + 1;
     out
-}
-
-// The goal without the claim at a place: those behind it move up.
-fn dropped(g: Goal, at: usize) -> Goal
-    requires { ⌜ (g .count ≤ 64) × (at < g .count) ⌝ }
-    ensures { λ r. ⌜ (records r ≡ take at (records g) ++ drop (at + 1) (records g)) × (r .count + 1 ≡ g .count) ⌝ }
-{
-    let last = g.count - 1;
-    let mut out = g;
-    let mut i = at;
-    while i < last {
-        let c = out.claims[i + 1];
-        out.claims[i] = c;
-        i += 1;
-    }
-    out.count = last;
-    out
-}
-
-// The goal without its first copy of a claim.
-pub fn without(g: Goal, c: Claim) -> Goal
-    requires { ⌜ g .count ≤ 64 ⌝ }
-    ensures { λ r. ⌜ (records r ≡ lacking c (records g)) × (r .count ≤ g .count) ⌝ }
-{
-    let at = find(g, c);
-    if at < g.count {
-        return dropped(g, at);
-    }
-    g
 }

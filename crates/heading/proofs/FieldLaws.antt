@@ -7,7 +7,6 @@ use mathlib.Core.List.{List, [], _∷_, _++_, map}
 use mathlib.Core.Path.{_≡_, refl, sym, ap, _∙_}
 use lib.Dec.{eqb, ltb, leb}
 use lib.ListN.{length, getD, List·getD-map}
-use borrow.Author.Tests.{ne-eqb}
 use Rattle.lines.specs.Text.{wordCount}
 use Rattle.lines.specs.declared.Line.{Line}
 use Rattle.alc.specs.Lists.{every}
@@ -53,10 +52,6 @@ module _ (e d k n : ℕ) where
   pub as-concept : k ≡ 99 → ltb n e ≡ every (inRange e d) (fieldBy k n)
   unfolding fieldBy
   as-concept h = rw h (and-end (ltb n e))
-
-  pub as-none : (k ≡ 114 → ⊥) → (k ≡ 65 → ⊥) → (k ≡ 110 → ⊥) → (k ≡ 100 → ⊥) → (k ≡ 115 → ⊥) → (k ≡ 99 → ⊥) → true ≡ every (inRange e d) (fieldBy k n)
-  unfolding fieldBy
-  as-none a b c f g h = rw (ne-eqb k 114 a, ne-eqb k 65 b, ne-eqb k 110 c, ne-eqb k 100 f, ne-eqb k 115 g, ne-eqb k 99 h)
 
 -- the columns, side by side
 abbrev threes : List ℕ → List ℕ → List ℕ → ℕ → ℕ → ℕ → List (List Field)
@@ -106,7 +101,7 @@ ranges-at e d l h =
     ∙ every-append (inRange e d) (fieldBy (getD firsts (l .word) 0) (l .n0)) (fieldBy (getD seconds (l .word) 0) (l .n1) ++ fieldBy (getD thirds (l .word) 0) (l .n2))
     ∙ ap (λ b. every (inRange e d) (fieldBy (getD firsts (l .word) 0) (l .n0)) && b) (every-append (inRange e d) (fieldBy (getD seconds (l .word) 0) (l .n1)) (fieldBy (getD thirds (l .word) 0) (l .n2)))
 
--- the three tests, one after the other
+-- the three tests
 module _ (e d : ℕ) (l : Line) (h : l .word < wordCount) where
   abbrev pub in-first : Bool
   in-first = every (inRange e d) (fieldBy (getD firsts (l .word) 0) (l .n0))
@@ -116,12 +111,3 @@ module _ (e d : ℕ) (l : Line) (h : l .word < wordCount) where
 
   abbrev pub in-third : Bool
   in-third = every (inRange e d) (fieldBy (getD thirds (l .word) 0) (l .n2))
-
-  pub first-fails : in-first ≡ false → false ≡ every (inRange e d) (saidFields (saying l))
-  first-fails f = sym (ranges-at e d l h ∙ rw f)
-
-  pub second-fails : in-first ≡ true → in-second ≡ false → false ≡ every (inRange e d) (saidFields (saying l))
-  second-fails f g = sym (ranges-at e d l h ∙ rw (f, g))
-
-  pub third-says : in-first ≡ true → in-second ≡ true → in-third ≡ every (inRange e d) (saidFields (saying l))
-  third-says f g = sym (ranges-at e d l h ∙ rw (f, g))

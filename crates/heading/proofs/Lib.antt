@@ -1,6 +1,7 @@
--- `FieldLaws`: the fields of a line and their ranges. `Small`: its numbers fit a byte. `Judging`: one line of the judge at a time.
+-- `FieldLaws`: the fields of a line and their ranges. `Bounds`: the bounds of its numbers. `Small`: its numbers fit a byte. `Judging`: one line of the judge at a time.
 -- `TableLaws`: the table in its columns.
 pub mod FieldLaws
+pub mod Bounds
 pub mod Small
 pub mod Judging
 pub mod TableLaws

@@ -19,6 +19,7 @@ use Rattle.alc.specs.Ranges.{inRange}
 use Rattle.alc.specs.Meaning.{everyBelow}
 use Rattle.alc.specs.Table.{Kind, Table, entry, entryOf}
 use Rattle.alc.specs.Claims.{Sided, Goal}
+use Rattle.alc.specs.declared.Claim.{Claim as Record}
 use Rattle.alc.specs.Rules
 use Rattle.alc.specs.Rules.{Step, stepFields, plan}
 use Rattle.alc.specs.Goals.{stepRows, premises, goalsAfter}
@@ -96,12 +97,12 @@ pub entry-past : (ks xs ys : List ℕ) (n i : ℕ) → n ≤ i → entry (tableO
 entry-past ks xs ys n i h = List·getD-eq-default (tableOf ks xs ys n) (entryOf Kind.top 0 0) (rw (table-length ks xs ys n) h)
 
 -- what a line does, by its first row and by the turn of its step
-module _ (T : Table) (entries : ℕ) (l : Line) (cs : List Sided) (w : ℕ) (t : Turn) where
-  pub turned-3 : every (inRange entries 0) (saidFields (saying l)) ≡ false → t .number ≡ 3 → Turned T entries l cs w t
+module _ (T : Table) (entries : ℕ) (l : Line) (cs : List Sided) (rs : List Record) (w : ℕ) (t : Turn) where
+  pub turned-3 : every (inRange entries 0) (saidFields (saying l)) ≡ false → t .number ≡ 3 → Turned T entries l cs rs w t
   unfolding turnRows
   turned-3 h e = record { number = e ∙ (rw h); leaves = λ z. absurd (omega (arith, e)) }
 
-  pub turned : every (inRange entries 0) (saidFields (saying l)) ≡ true → Turns (plan T (stepIn l)) cs w t → Turned T entries l cs w t
+  pub turned : every (inRange entries 0) (saidFields (saying l)) ≡ true → Turns (plan T (stepIn l)) cs rs w t → Turned T entries l cs rs w t
   unfolding turnRows
   turned h u = record { number = u .number ∙ (rw h); leaves = u .leaves }
 

@@ -22,17 +22,18 @@ use Rattle.alc.specs.Claims.{Sided, Goal}
 use Rattle.alc.specs.Rules.{plan}
 use Rattle.alc.specs.Goals.{premises}
 use Rattle.alc.specs.Dossier.{saying}
-use Rattle.alc.specs.Shown.{Shows, tableOf}
+use Rattle.alc.specs.Shown.{records, Shows, tableOf}
 use Rattle.alc.specs.Verdict.{Verdict, proved, refused, rows, ending, judge}
 use Rattle.alc.specs.declared.Goal.{Goal as Records}
 use Rattle.alc.proofs.ShownLaws.{table-length}
 use Rattle.goals.specs.declared.Turn.{Turn}
-use Rattle.goals.specs.Records.{Leaves, none, one, two}
+use Rattle.goals.specs.Records.{added, premiseAt, Makes, Leaves, none, one, two}
+use Rattle.goals.proofs.RecordLaws.{two-opens, comes-one}
 use Rattle.heading.specs.Parts.{inSteps, Columns}
 use Rattle.heading.proofs.Judging.{judge-end, judge-bad, judge-next, judge-refused}
 use Rattle.steps.specs.Turning.{stepIn, Turned}
 use Rattle.steps.specs.Acting
-use Rattle.steps.specs.Acting.{restingOf, stoppedOf, passedOf, tookOf, openOf, partedOf, takenOf, closedOf, verdictOf, Ready, Current, from, Acts, Acted}
+use Rattle.steps.specs.Acting.{stoppedOf, passedOf, partedOf, lastOf, takenOf, closedOf, afterOf, verdictOf, Ready, Current, from, After, Acts, Leads, Acted}
 use Rattle.steps.specs.declared.State.{State}
 use Rattle.steps.specs.declared.Act.{Act}
 use Rattle.steps.proofs.StepLaws.{step-word, rows-5, rows-9, rows-turn, after-turn}
@@ -53,20 +54,37 @@ module _ (text ks xs ys : List ℕ) (entries : ℕ) (s : State) (v : Ready text 
   abbrev Decided : Verdict → Type 0
   Decided k = (cs : List Sided) (gs : List Goal) → s .open ≡ length gs → Current (s .goal) gs → k ≡ whole cs gs
 
+  -- an act is described by where it leads with any goal that is the first premise
+  abbrev Behind : Act → Type 0
+  Behind a = (g : Records) → g .count ≤ 64 → records g ≡ premiseAt 0 (a .turn) (records (s .goal)) → g .count ≡ a .turn .kept + length (getD (added (a .turn .leaves) (a .turn .first) (a .turn .second)) 0 []) → Leads text ks xs ys entries s a (afterOf s a g)
+
+  behind : (a : Act) → Behind a → (n : State) → After s a n → Leads text ks xs ys entries s a n
+  behind a h n f = subst (Leads text ks xs ys entries s a) (sym (f .is)) (h (n .goal) (f .small) (f .goal) (f .count))
+
+  not-1 : _≡_ {A = ℕ} 0 1 → ⊥
+  not-1 e = omega arith
+
+  not-2 : _≡_ {A = ℕ} 0 2 → ⊥
+  not-2 e = omega arith
+
   -- the verdict is there
-  stops : (k n : ℕ) → Decided (verdictOf k n) → Acted text ks xs ys entries s (restingOf (stoppedOf s k n))
+  stops : (k n : ℕ) → Decided (verdictOf k n) → Acted text ks xs ys entries s (stoppedOf s k n)
   stops k n d = record {
-    ready = λ e. absurd (false≢true (sym e));
-    stores = λ (e : _≡_ {A = ℕ} 0 1). absurd (omega arith);
-    fetches = λ (e : _≡_ {A = ℕ} 0 2). absurd (omega arith);
-    acts = λ cs gs o c. Acting.stops gs refl refl (d cs gs o c);
+    makes = (v .small, record { place = omega arith; kept = omega arith; room = refl; opens = refl }, λ e. absurd (not-1 e));
+    leads = behind (stoppedOf s k n) (λ g small sg n.
+        record {
+          ready = λ e. absurd (false≢true (sym e));
+          stores = λ e. absurd (not-1 e);
+          fetches = λ e. absurd (not-2 e);
+          acts = λ cs gs o c. Acting.stops gs refl refl (d cs gs o c);
+        });
   }
 
   -- one line more has been read
   line-more : (k : ℕ) → refused k (suc (s .lines)) ≡ refused k (s .lines + 1)
   line-more k = ap (refused k) (sym (add-one (s .lines)))
 
-  pub stops-bad : Line-bad text (s .at) 2 → Acted text ks xs ys entries s (restingOf (stoppedOf s 2 (s .lines + 1)))
+  pub stops-bad : Line-bad text (s .at) 2 → Acted text ks xs ys entries s (stoppedOf s 2 (s .lines + 1))
   stops-bad b = stops 2 (s .lines + 1) (λ cs gs o c. sym (judge-bad text (s .at) 2 (s .lines) (inSteps T cs (s .steps) gs) refl b ∙ line-more 2))
 
   -- at the end
@@ -74,14 +92,14 @@ module _ (text ks xs ys : List ℕ) (entries : ℕ) (s : State) (v : Ready text 
   unfolding ending
   ended cs gs e = judge-end (s .lines) (inSteps T cs (s .steps) gs) _ e
 
-  pub stops-open : linesOf (drop (s .at) text) ≡ [] → 0 < s .open → Acted text ks xs ys entries s (restingOf (stoppedOf s 12 (s .lines + 1)))
+  pub stops-open : linesOf (drop (s .at) text) ≡ [] → 0 < s .open → Acted text ks xs ys entries s (stoppedOf s 12 (s .lines + 1))
   stops-open e h = stops 12 (s .lines + 1) (λ cs gs o c. sym (ended cs gs e ∙ go gs o ∙ line-more 12))
     where
       go : (hs : List Goal) → s .open ≡ length hs → cond (isEmpty hs) (proved (s .lines)) (refused 12 (suc (s .lines))) ≡ refused 12 (suc (s .lines))
       go [] q = absurd (omega arith)
       go (x ∷ hs) q = refl
 
-  pub stops-proved : linesOf (drop (s .at) text) ≡ [] → s .open ≤ 0 → Acted text ks xs ys entries s (restingOf (stoppedOf s 0 (s .lines)))
+  pub stops-proved : linesOf (drop (s .at) text) ≡ [] → s .open ≤ 0 → Acted text ks xs ys entries s (stoppedOf s 0 (s .lines))
   stops-proved e h = stops 0 (s .lines) (λ cs gs o c. sym (ended cs gs e ∙ go gs o))
     where
       go : (hs : List Goal) → s .open ≡ length hs → cond (isEmpty hs) (proved (s .lines)) (refused 12 (suc (s .lines))) ≡ proved (s .lines)
@@ -100,18 +118,18 @@ module _ (text ks xs ys : List ℕ) (entries : ℕ) (s : State) (v : Ready text 
     long-table = table-length ks xs ys entries
 
     refuses : (k : ℕ) → (k ≡ 0 → ⊥) → ((cs : List Sided) (gs : List Goal) → s .open ≡ length gs → Current (s .goal) gs → refusal (rows (inSteps T cs (s .steps) gs) (saying l)) ≡ k)
-        → Acted text ks xs ys entries s (restingOf (stoppedOf s k (s .lines + 1)))
+        → Acted text ks xs ys entries s (stoppedOf s k (s .lines + 1))
     refuses k z r =
         stops k (s .lines + 1)
         (λ cs gs o c. refused-by k (s .lines + 1) z ∙ sym (judge-refused text (s .at) 2 (s .lines) (inSteps T cs (s .steps) gs) refl l to f k (r cs gs o c) z ∙ line-more k))
 
-    pub stops-5 : 1024 ≤ s .steps → Acted text ks xs ys entries s (restingOf (stoppedOf s 5 (s .lines + 1)))
+    pub stops-5 : 1024 ≤ s .steps → Acted text ks xs ys entries s (stoppedOf s 5 (s .lines + 1))
     stops-5 h =
         refuses 5 (λ (z : _≡_ {A = ℕ} 5 0). omega arith)
         (λ cs gs o c. rows-5 T entries long-table (v .columns .few) l t (word .0) (word .1) cs (s .steps) gs (le-ltb (s .steps) 1024 h))
 
     module _ (room : s .steps < 1024) where
-      pub stops-9 : s .open ≡ 0 → Acted text ks xs ys entries s (restingOf (stoppedOf s 9 (s .lines + 1)))
+      pub stops-9 : s .open ≡ 0 → Acted text ks xs ys entries s (stoppedOf s 9 (s .lines + 1))
       stops-9 h = refuses 9 (λ (z : _≡_ {A = ℕ} 9 0). omega arith) (λ cs gs o c. go cs gs o)
         where
           go : (cs : List Sided) (hs : List Goal) → s .open ≡ length hs → refusal (rows (inSteps T cs (s .steps) hs) (saying l)) ≡ 9
@@ -119,16 +137,16 @@ module _ (text ks xs ys : List ℕ) (entries : ℕ) (s : State) (v : Ready text 
           go cs (x ∷ hs) q = absurd (omega arith)
 
       -- with a goal open, on which the line turns
-      module _ (some : s .open ≡ 0 → ⊥) (u : Turn) (d : (cs : List Sided) → Shows (s .goal) cs → Turned T entries l cs (s .open - 1) u) where
+      module _ (some : s .open ≡ 0 → ⊥) (u : Turn) (d : (cs : List Sided) → Shows (s .goal) cs → Turned T entries l cs (records (s .goal)) (s .open - 1) u) where
         -- the line's turn at the current goal x, with those of hs waiting
-        turn-here : (x : Goal) (hs : List Goal) → s .open ≡ suc (length hs) → Shows (s .goal) x → Turned T entries l x (length hs) u
-        turn-here x hs q c = let b : s .open - 1 ≡ length hs = omega arith in subst (λ (k : ℕ). Turned T entries l x k u) b (d x c)
+        turn-here : (x : Goal) (hs : List Goal) → s .open ≡ suc (length hs) → Shows (s .goal) x → Turned T entries l x (records (s .goal)) (length hs) u
+        turn-here x hs q c = let b : s .open - 1 ≡ length hs = omega arith in subst (λ (k : ℕ). Turned T entries l x (records (s .goal)) k u) b (d x c)
 
         rows-here : (cs : List Sided) (x : Goal) (hs : List Goal) → s .open ≡ suc (length hs) → Shows (s .goal) x → refusal (rows (inSteps T cs (s .steps) (x ∷ hs)) (saying l)) ≡ u .number
         rows-here cs x hs q c =
             rows-turn T entries long-table (v .columns .few) l t (word .0) (word .1) cs (s .steps) x hs (lt-ltb (s .steps) 1024 room) ∙ sym (turn-here x hs q c .number)
 
-        pub stops-turn : (u .number ≡ 0 → ⊥) → Acted text ks xs ys entries s (restingOf (stoppedOf s (u .number) (s .lines + 1)))
+        pub stops-turn : (u .number ≡ 0 → ⊥) → Acted text ks xs ys entries s (stoppedOf s (u .number) (s .lines + 1))
         stops-turn z = refuses (u .number) z go
           where
             go : (cs : List Sided) (hs : List Goal) → s .open ≡ length hs → Current (s .goal) hs → refusal (rows (inSteps T cs (s .steps) hs) (saying l)) ≡ u .number
@@ -136,19 +154,20 @@ module _ (text ks xs ys : List ℕ) (entries : ℕ) (s : State) (v : Ready text 
             go cs (x ∷ hs) q c = rows-here cs x hs q c
 
         -- the line passes: the goals that are open are its premises and those that wait
-        module _ (z : u .number ≡ 0) where
-          abbrev p : State
-          p = passedOf s (s .lines + 1) to
+        module _ (z : u .number ≡ 0) (mk : Makes u (s .goal)) where
+          -- the verdict behind the line, with these goals open
+          abbrev behind-line : List Sided → List Goal → Verdict
+          behind-line cs gs = judge (s .lines + 1) (inSteps T cs (s .steps + 1) gs) (linesOf (drop to text))
 
           passes : (cs : List Sided) (x : Goal) (hs : List Goal) → s .open ≡ suc (length hs) → Shows (s .goal) x
-              → whole cs (x ∷ hs) ≡ from T cs text p (premises (plan T (stepIn l)) x ++ hs)
+              → whole cs (x ∷ hs) ≡ behind-line cs (premises (plan T (stepIn l)) x ++ hs)
           passes cs x hs q c =
               let r = turn-here x hs q c in
               judge-next text (s .at) 2 (s .lines) (inSteps T cs (s .steps) (x ∷ hs)) refl l to f (rows-here cs x hs q c ∙ z)
               ∙ ap (λ S. judge (suc (s .lines)) S (linesOf (drop to text))) (after-turn T entries long-table (v .columns .few) l t (word .0) (word .1) cs (s .steps) x hs (length hs) (sym (r .number) ∙ z))
               ∙ ap₂ (λ k j. judge k (inSteps T cs j (premises (plan T (stepIn l)) x ++ hs)) (linesOf (drop to text))) (sym (add-one (s .lines))) (sym (add-one (s .steps)))
 
-          leaves : (x : Goal) (hs : List Goal) → s .open ≡ suc (length hs) → Shows (s .goal) x → Leaves u (premises (plan T (stepIn l)) x)
+          leaves : (x : Goal) (hs : List Goal) → s .open ≡ suc (length hs) → Shows (s .goal) x → Leaves (records (s .goal)) u (premises (plan T (stepIn l)) x)
           leaves x hs q c = turn-here x hs q c .leaves z
 
           -- another goal, other counts and another count of open goals, behind the line
@@ -167,90 +186,132 @@ module _ (text ks xs ys : List ℕ) (entries : ℕ) (s : State) (v : Ready text 
           }
 
           -- one premise
-          pub goes-one : u .under .count ≤ 64 → u .opens ≡ 1 → Acted text ks xs ys entries s (restingOf (tookOf p (u .under)))
-          goes-one small h = record {
-            ready = λ e. (again (u .under) (s .counts) (s .open) small (v .slots) (v .sizes) (v .few), f .later);
-            stores = λ (e : _≡_ {A = ℕ} 0 1). absurd (omega arith);
-            fetches = λ (e : _≡_ {A = ℕ} 0 2). absurd (omega arith);
-            acts = go;
+          abbrev onto : Act
+          onto = passedOf s u (s .lines + 1) to 0 0 0 (s .open)
+
+          pub goes-one : u .opens ≡ 1 → Acted text ks xs ys entries s onto
+          goes-one h = record {
+            makes = (v .small, mk, λ e. absurd (not-1 e));
+            leads = behind onto (λ g small sg n.
+                record {
+                  ready = λ e. (again g (s .counts) (s .open) small (v .slots) (v .sizes) (v .few), f .later);
+                  stores = λ e. absurd (not-1 e);
+                  fetches = λ e. absurd (not-2 e);
+                  acts = go g sg;
+                });
           }
             where
-              at : (cs : List Sided) (x : Goal) (hs ps : List Goal) → Leaves u ps → whole cs (x ∷ hs) ≡ from T cs text p (ps ++ hs)
-                  → Acts T cs text s (restingOf (tookOf p (u .under))) (x ∷ hs)
-              at cs x hs [] (none o) e = absurd (omega (arith, o, h))
-              at cs x hs (y ∷ []) (one k o sy) e = Acting.carries x y hs refl (v .going) refl refl sy e
-              at cs x hs (y ∷ y′ ∷ []) (two a b o sa sb) e = absurd (omega (arith, o, h))
+              at : (g : Records) → records g ≡ premiseAt 0 u (records (s .goal)) → (cs : List Sided) (x : Goal) (hs ps : List Goal) → Leaves (records (s .goal)) u ps
+                  → whole cs (x ∷ hs) ≡ behind-line cs (ps ++ hs) → Acts T cs text s onto (afterOf s onto g) (x ∷ hs)
+              at g sg cs x hs [] (none o) e = absurd (omega (arith, o, h))
+              at g sg cs x hs (y ∷ []) (one k o sy) e = Acting.carries x y hs refl (v .going) refl refl (sg ∙ sy) e
+              at g sg cs x hs (y ∷ y′ ∷ []) (two a b o sa sb) e = absurd (omega (arith, o, h))
 
-              go : (cs : List Sided) (gs : List Goal) → s .open ≡ length gs → Current (s .goal) gs → Acts T cs text s (restingOf (tookOf p (u .under))) gs
-              go cs [] q c = absurd (some q)
-              go cs (x ∷ hs) q c = at cs x hs (premises (plan T (stepIn l)) x) (leaves x hs q c) (passes cs x hs q c)
+              go : (g : Records) → records g ≡ premiseAt 0 u (records (s .goal)) → (cs : List Sided) (gs : List Goal) → s .open ≡ length gs → Current (s .goal) gs
+                  → Acts T cs text s onto (afterOf s onto g) gs
+              go g sg cs [] q c = absurd (some q)
+              go g sg cs (x ∷ hs) q c = at g sg cs x hs (premises (plan T (stepIn l)) x) (leaves x hs q c) (passes cs x hs q c)
 
           -- two premises
-          pub goes-two : u .under .count ≤ 64 → u .over .count ≤ 64 → u .under .count ≤ length (u .under .claims) → u .opens ≡ 2 → s .open ≤ 16
-              → Acted text ks xs ys entries s (partedOf p (u .over) (u .under))
-          goes-two small small2 full h few = record {
-            ready = λ e. (again (u .over) (set (s .counts) (s .open - 1) (u .under .count)) (s .open + 1) small2 (length-set (s .counts) (s .open - 1) (u .under .count) ∙ v .slots) sizes (omega arith), f .later);
-            stores = λ e. (small, full, omega arith);
-            fetches = λ (e : _≡_ {A = ℕ} 1 2). absurd (omega arith);
-            acts = go;
+          abbrev apart : Act
+          apart = partedOf s u (s .lines + 1) to
+
+          -- the goal g has as many claims as the first premise
+          abbrev Sized : Records → Type 0
+          Sized g = g .count ≡ u .kept + length (getD (added (u .leaves) (u .first) (u .second)) 0 [])
+
+          pub goes-two : u .opens ≡ 2 → s .open ≤ 16 → Acted text ks xs ys entries s apart
+          goes-two h few = record {
+            makes = (v .small, mk, λ e. (omega (arith, some), few));
+            leads = behind apart (λ g small sg n.
+                record {
+                  ready = λ e. (again g (set (s .counts) (s .open - 1) (u .kept + 1)) (s .open + 1) small (length-set (s .counts) (s .open - 1) (u .kept + 1) ∙ v .slots) (sizes g small n) (omega arith), f .later);
+                  stores = λ e. (omega (arith, size-of g n), small, three, omega arith);
+                  fetches = λ (e : _≡_ {A = ℕ} 1 2). absurd (omega arith);
+                  acts = go g sg n;
+                });
           }
             where
-              sizes : (i : ℕ) → getD (set (s .counts) (s .open - 1) (u .under .count)) i 0 ≤ 64
-              sizes i = size (ℕ-discrete i (s .open - 1))
+              three : 3 ≤ u .leaves
+              three = two-opens (u .first) (u .second) (u .leaves) (sym (mk .opens) ∙ h)
+
+              -- the first premise has the claims that are kept and one more
+              size-of : (g : Records) → Sized g → g .count ≡ u .kept + 1
+              size-of g n = n ∙ ap (λ k. u .kept + k) (comes-one (u .first) (u .second) (u .leaves) (λ z. omega (arith, three)) (λ z. omega (arith, three)))
+
+              sizes : (g : Records) → g .count ≤ 64 → Sized g → (i : ℕ) → getD (set (s .counts) (s .open - 1) (u .kept + 1)) i 0 ≤ 64
+              sizes g small n i = size (ℕ-discrete i (s .open - 1))
                 where
-                  size : Dec (i ≡ s .open - 1) → getD (set (s .counts) (s .open - 1) (u .under .count)) i 0 ≤ 64
-                  size (yes e) = rw (e, getD-set-same (s .counts) (s .open - 1) (u .under .count) 0 (omega (arith, v .slots, few, some))) small
-                  size (no e) = rw (getD-set-other (s .counts) (s .open - 1) i (u .under .count) 0 e) (v .sizes i)
+                  size : Dec (i ≡ s .open - 1) → getD (set (s .counts) (s .open - 1) (u .kept + 1)) i 0 ≤ 64
+                  size (yes e) = rw (e, getD-set-same (s .counts) (s .open - 1) (u .kept + 1) 0 (omega (arith, v .slots, few, some))) (omega (arith, size-of g n))
+                  size (no e) = rw (getD-set-other (s .counts) (s .open - 1) i (u .kept + 1) 0 e) (v .sizes i)
 
-              at : (cs : List Sided) (x : Goal) (hs ps : List Goal) → s .open - 1 ≡ length hs → Leaves u ps → whole cs (x ∷ hs) ≡ from T cs text p (ps ++ hs)
-                  → Acts T cs text s (partedOf p (u .over) (u .under)) (x ∷ hs)
-              at cs x hs [] q (none o) e = absurd (omega (arith, o, h))
-              at cs x hs (y ∷ []) q (one k o sy) e = absurd (omega (arith, o, h))
-              at cs x hs (y ∷ y′ ∷ []) q (two a b o sa sb) e =
-                  Acting.parts x y y′ hs refl (v .going) refl (ap (λ (n : ℕ). n * 64) q) (ap (λ (n : ℕ). set (s .counts) n (u .under .count)) q) sa sb e
+              at : (g : Records) → records g ≡ premiseAt 0 u (records (s .goal)) → Sized g → (cs : List Sided) (x : Goal) (hs ps : List Goal) → s .open - 1 ≡ length hs
+                  → Leaves (records (s .goal)) u ps → whole cs (x ∷ hs) ≡ behind-line cs (ps ++ hs) → Acts T cs text s apart (afterOf s apart g) (x ∷ hs)
+              at g sg n cs x hs [] q (none o) e = absurd (omega (arith, o, h))
+              at g sg n cs x hs (y ∷ []) q (one _ o sy) e = absurd (omega (arith, o, h))
+              at g sg n cs x hs (y ∷ y′ ∷ []) q (two a b o sa sb) e =
+                  Acting.parts x y y′ hs refl (v .going) refl (ap (λ (k : ℕ). k * 64) q) (ap₂ (λ (k m : ℕ). set (s .counts) k m) q (sym (size-of g n))) (sg ∙ sa) sb e
 
-              go : (cs : List Sided) (gs : List Goal) → s .open ≡ length gs → Current (s .goal) gs → Acts T cs text s (partedOf p (u .over) (u .under)) gs
-              go cs [] q c = absurd (some q)
-              go cs (x ∷ hs) q c = at cs x hs (premises (plan T (stepIn l)) x) (omega arith) (leaves x hs q c) (passes cs x hs q c)
+              go : (g : Records) → records g ≡ premiseAt 0 u (records (s .goal)) → Sized g → (cs : List Sided) (gs : List Goal) → s .open ≡ length gs → Current (s .goal) gs
+                  → Acts T cs text s apart (afterOf s apart g) gs
+              go g sg n cs [] q c = absurd (some q)
+              go g sg n cs (x ∷ hs) q c = at g sg n cs x hs (premises (plan T (stepIn l)) x) (omega arith) (leaves x hs q c) (passes cs x hs q c)
 
           -- no premise: the last goal, or one that is fetched
-          pub goes-none : u .opens ≡ 0 → Acted text ks xs ys entries s (closedOf p)
+          abbrev done : Act
+          done = lastOf s u (s .lines + 1) to
+
+          abbrev back : Act
+          back = takenOf s u (s .lines + 1) to
+
+          pub goes-none : u .opens ≡ 0 → Acted text ks xs ys entries s (closedOf s u (s .lines + 1) to)
           goes-none h = by (ℕ-discrete (s .open - 1) 0)
             where
-              closed-at : (cs : List Sided) (x : Goal) (hs ps : List Goal) → Leaves u ps → whole cs (x ∷ hs) ≡ from T cs text p (ps ++ hs) → whole cs (x ∷ hs) ≡ from T cs text p hs
+              closed-at : (cs : List Sided) (x : Goal) (hs ps : List Goal) → Leaves (records (s .goal)) u ps → whole cs (x ∷ hs) ≡ behind-line cs (ps ++ hs)
+                  → whole cs (x ∷ hs) ≡ behind-line cs hs
               closed-at cs x hs [] (none o) e = e
               closed-at cs x hs (y ∷ []) (one k o sy) e = absurd (omega (arith, o, h))
               closed-at cs x hs (y ∷ y′ ∷ []) (two a b o sa sb) e = absurd (omega (arith, o, h))
 
-              left : (cs : List Sided) (x : Goal) (hs : List Goal) → s .open ≡ suc (length hs) → Shows (s .goal) x → whole cs (x ∷ hs) ≡ from T cs text p hs
+              left : (cs : List Sided) (x : Goal) (hs : List Goal) → s .open ≡ suc (length hs) → Shows (s .goal) x → whole cs (x ∷ hs) ≡ behind-line cs hs
               left cs x hs q c = closed-at cs x hs (premises (plan T (stepIn l)) x) (leaves x hs q c) (passes cs x hs q c)
 
-              last : s .open - 1 ≡ 0 → (cs : List Sided) (gs : List Goal) → s .open ≡ length gs → Current (s .goal) gs → Acts T cs text s (restingOf (openOf p (s .open - 1))) gs
-              last e cs [] q c = absurd (some q)
-              last e cs (x ∷ []) q c = Acting.closes x refl (v .going) e (left cs x [] q c)
-              last e cs (x ∷ y ∷ hs) q c = absurd (omega arith)
+              last : (g : Records) → s .open - 1 ≡ 0 → (cs : List Sided) (gs : List Goal) → s .open ≡ length gs → Current (s .goal) gs → Acts T cs text s done (afterOf s done g) gs
+              last g e cs [] q c = absurd (some q)
+              last g e cs (x ∷ []) q c = Acting.closes x refl (v .going) e (left cs x [] q c)
+              last g e cs (x ∷ y ∷ hs) q c = absurd (omega arith)
 
-              fetch : (s .open - 1 ≡ 0 → ⊥) → (cs : List Sided) (gs : List Goal) → s .open ≡ length gs → Current (s .goal) gs → Acts T cs text s (takenOf p) gs
-              fetch e cs [] q c = absurd (some q)
-              fetch e cs (x ∷ []) q c = absurd (e (omega arith))
-              fetch e cs (x ∷ y ∷ hs) q c =
+              fetch : (g : Records) → (s .open - 1 ≡ 0 → ⊥) → (cs : List Sided) (gs : List Goal) → s .open ≡ length gs → Current (s .goal) gs
+                  → Acts T cs text s back (afterOf s back g) gs
+              fetch g e cs [] q c = absurd (some q)
+              fetch g e cs (x ∷ []) q c = absurd (e (omega arith))
+              fetch g e cs (x ∷ y ∷ hs) q c =
                   let k : s .open - 1 - 1 ≡ length hs = omega arith in
                   Acting.takes x y hs refl (v .going) refl (ap (λ (n : ℕ). n * 64) k) (ap (λ (n : ℕ). getD (s .counts) n 0) k) refl (left cs x (y ∷ hs) q c)
 
-              by : Dec (s .open - 1 ≡ 0) → Acted text ks xs ys entries s (closedOf p)
+              by : Dec (s .open - 1 ≡ 0) → Acted text ks xs ys entries s (closedOf s u (s .lines + 1) to)
               by (yes e) =
-                  subst (λ (b : Bool). Acted text ks xs ys entries s (cond b (restingOf (openOf p (s .open - 1))) (takenOf p))) (sym (eq-eqb (s .open - 1) 0 e))
+                  subst (λ (b : Bool). Acted text ks xs ys entries s (cond b done back)) (sym (eq-eqb (s .open - 1) 0 e))
                   (record {
-                    ready = λ _. (again (s .goal) (s .counts) (s .open - 1) (v .small) (v .slots) (v .sizes) (omega (arith, v .few)), f .later);
-                    stores = λ (e : _≡_ {A = ℕ} 0 1). absurd (omega arith);
-                    fetches = λ (e : _≡_ {A = ℕ} 0 2). absurd (omega arith);
-                    acts = last e;
+                    makes = (v .small, mk, λ i. absurd (not-1 i));
+                    leads = behind done (λ g small sg n.
+                        record {
+                          ready = λ _. (again g (s .counts) (s .open - 1) small (v .slots) (v .sizes) (omega (arith, v .few)), f .later);
+                          stores = λ i. absurd (not-1 i);
+                          fetches = λ i. absurd (not-2 i);
+                          acts = last g e;
+                        });
                   })
               by (no e) =
-                  subst (λ (b : Bool). Acted text ks xs ys entries s (cond b (restingOf (openOf p (s .open - 1))) (takenOf p))) (sym (ne-eqb (s .open - 1) 0 e))
+                  subst (λ (b : Bool). Acted text ks xs ys entries s (cond b done back)) (sym (ne-eqb (s .open - 1) 0 e))
                   (record {
-                    ready = λ _. (again (s .goal) (s .counts) (s .open - 1) (v .small) (v .slots) (v .sizes) (omega (arith, v .few)), f .later);
-                    stores = λ (e : _≡_ {A = ℕ} 2 1). absurd (omega arith);
-                    fetches = λ _. (v .sizes (s .open - 1 - 1), omega (arith, v .few));
-                    acts = fetch e;
+                    makes = (v .small, mk, λ (i : _≡_ {A = ℕ} 2 1). absurd (omega arith));
+                    leads = behind back (λ g small sg n.
+                        record {
+                          ready = λ _. (again g (s .counts) (s .open - 1) small (v .slots) (v .sizes) (omega (arith, v .few)), f .later);
+                          stores = λ (i : _≡_ {A = ℕ} 2 1). absurd (omega arith);
+                          fetches = λ _. (v .sizes (s .open - 1 - 1), omega (arith, v .few));
+                          acts = fetch g e;
+                        });
                   })

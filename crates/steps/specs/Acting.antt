@@ -2,16 +2,19 @@
 -- Assumes nothing.
 use Prim.Native.Nat.{ℕ, zero, suc, _+_, _-_, _*_, _≤_, _<_}
 use mathlib.Core.Bool.{Bool, true, false, cond}
-use mathlib.Core.List.{List, [], _∷_}
+use mathlib.Core.List.{List, [], _∷_, map}
 use mathlib.Core.Path.{_≡_}
 use lib.Dec.{eqb}
 use lib.ListN.{length, getD, set, drop, replicate}
 use Rattle.lines.specs.Text.{linesOf}
 use Rattle.alc.specs.Table.{Table}
-use Rattle.alc.specs.Claims.{Sided, Goal}
-use Rattle.alc.specs.Shown.{Shows, tableOf}
+use Rattle.alc.specs.Claims.{is, Sided, Goal}
+use Rattle.alc.specs.Shown.{records, recordOf, recordBy, Shows, tableOf}
 use Rattle.alc.specs.Verdict.{Verdict, proved, refused, judge}
+use Rattle.alc.specs.declared.Claim.{Claim as Record}
 use Rattle.alc.specs.declared.Goal.{Goal as Records}
+use Rattle.goals.specs.declared.Turn.{Turn}
+use Rattle.goals.specs.Records.{added, premiseAt, Makes}
 use Rattle.heading.specs.Parts.{Columns, inSteps}
 use Rattle.steps.specs.declared.State.{State}
 use Rattle.steps.specs.declared.Act.{Act}
@@ -28,42 +31,61 @@ noCounts = replicate 16 0
 abbrev pub begunOf : Records → ℕ → ℕ → State
 begunOf claims at lines = stateOf claims noCounts 1 0 lines at false 0
 
--- the verdict k with its line
-abbrev pub stoppedOf : State → ℕ → ℕ → State
-stoppedOf s k line = stateOf (s .goal) (s .counts) (s .open) (s .steps) line (s .at) true k
-
--- one step more, and the text read up to another place
-abbrev pub passedOf : State → ℕ → ℕ → State
-passedOf s line at = stateOf (s .goal) (s .counts) (s .open) (s .steps + 1) line at (s .ended) (s .number)
-
 -- another current goal
 abbrev pub tookOf : State → Records → State
 tookOf s g = stateOf g (s .counts) (s .open) (s .steps) (s .lines) (s .at) (s .ended) (s .number)
 
--- so many goals are open
-abbrev pub openOf : State → ℕ → State
-openOf s n = stateOf (s .goal) (s .counts) n (s .steps) (s .lines) (s .at) (s .ended) (s .number)
+-- the turn that leaves a goal of n claims as it is
+abbrev pub idleOf : ℕ → Turn
+idleOf n = record { number = 0; opens = 0; at = n; kept = n; leaves = 0; first = recordBy 0 (is 0 0); second = recordBy 0 (is 0 0) }
 
--- a goal of so many claims waits in the place w
-abbrev pub awaitOf : State → ℕ → ℕ → State
-awaitOf s w n = stateOf (s .goal) (set (s .counts) w n) (s .open + 1) (s .steps) (s .lines) (s .at) (s .ended) (s .number)
+-- the verdict k with its line
+abbrev pub stoppedOf : State → ℕ → ℕ → Act
+stoppedOf s k line =
+    record { kind = 0; base = 0; count = 0; turn = idleOf (s .goal .count); «open» = s .open; steps = s .steps; lines = line; at = s .at; ended = true; number = k }
 
--- nothing is asked of the room
-abbrev pub restingOf : State → Act
-restingOf s = record { kind = 0; base = 0; count = 0; aside = s .goal; next = s }
+-- one step more, with its turn t, and the text read up to another place: what is asked of the room, and how many goals are open
+abbrev pub passedOf : State → Turn → ℕ → ℕ → ℕ → ℕ → ℕ → ℕ → Act
+passedOf s t line at kind base count opened =
+    record { kind = kind; base = base; count = count; turn = t; «open» = opened; steps = s .steps + 1; lines = line; at = at; ended = s .ended; number = s .number }
 
 -- the first of two premises is current, and the second is stored
-abbrev pub partedOf : State → Records → Records → Act
-partedOf s g h = record { kind = 1; base = (s .open - 1) * 64; count = 0; aside = h; next = awaitOf (tookOf s g) (s .open - 1) (h .count) }
+abbrev pub partedOf : State → Turn → ℕ → ℕ → Act
+partedOf s t line at = passedOf s t line at 1 ((s .open - 1) * 64) (t .kept + 1) (s .open + 1)
+
+-- the last goal is closed
+abbrev pub lastOf : State → Turn → ℕ → ℕ → Act
+lastOf s t line at = passedOf s t line at 0 0 0 (s .open - 1)
 
 -- the goal that was put aside last is fetched
-abbrev pub takenOf : State → Act
-takenOf s =
-    record { kind = 2; base = (s .open - 1 - 1) * 64; count = getD (s .counts) (s .open - 1 - 1) 0; aside = s .goal; next = openOf s (s .open - 1) }
+abbrev pub takenOf : State → Turn → ℕ → ℕ → Act
+takenOf s t line at = passedOf s t line at 2 ((s .open - 1 - 1) * 64) (getD (s .counts) (s .open - 1 - 1) 0) (s .open - 1)
 
 -- the current goal is closed
-abbrev pub closedOf : State → Act
-closedOf s = cond (eqb (s .open - 1) 0) (restingOf (openOf s (s .open - 1))) (takenOf s)
+abbrev pub closedOf : State → Turn → ℕ → ℕ → Act
+closedOf s t line at = cond (eqb (s .open - 1) 0) (lastOf s t line at) (takenOf s t line at)
+
+-- the state behind the act a at the state s, with the current goal g; where a goal is put aside its place has its count
+abbrev pub afterOf : State → Act → Records → State
+afterOf s a g =
+    stateOf g (cond (eqb (a .kind) 1) (set (s .counts) (s .open - 1) (a .count)) (s .counts)) (a .open) (a .steps) (a .lines) (a .at) (a .ended) (a .number)
+
+-- the records of the second premise of the act a at the state s
+abbrev pub secondOf : State → Act → List Record
+secondOf s a = premiseAt 1 (a .turn) (records (s .goal))
+
+-- n is the state behind the act a at the state s: its goal is the first premise
+pub record After (s : State) (a : Act) (n : State) : Type 0 where
+  pub is : n ≡ afterOf s a (n .goal)
+  pub goal : records (n .goal) ≡ premiseAt 0 (a .turn) (records (s .goal))
+  pub small : n .goal .count ≤ 64
+  pub count : n .goal .count ≡ a .turn .kept + length (getD (added (a .turn .leaves) (a .turn .first) (a .turn .second)) 0 [])
+
+-- g is the second premise, where the state n behind the act a has the first
+pub record Aside (n : State) (a : Act) (g : Records) : Type 0 where
+  pub goal : (l : List Record) → records (n .goal) ≡ premiseAt 0 (a .turn) l → 3 ≤ a .turn .leaves → records g ≡ premiseAt 1 (a .turn) l
+  pub count : g .count ≡ n .goal .count
+  pub full : g .count ≤ length (g .claims)
 
 -- the verdict of a number, with its line
 abbrev pub verdictOf : ℕ → ℕ → Verdict
@@ -99,24 +121,29 @@ Current g (h ∷ hs) = Shows g h
 abbrev pub from : Table → List Sided → List ℕ → State → List Goal → Verdict
 from T cs text s gs = judge (s .lines) (inSteps T cs (s .steps) gs) (linesOf (drop (s .at) text))
 
--- what a line does with the goals gs open: the verdict is there; or the judge goes on with a premise; with two, of which one is stored; with none,
--- and that was the last goal; or with the goal that is fetched
-pub data Acts (T : Table) (cs : List Sided) (text : List ℕ) (s : State) (a : Act) : List Goal → Type 0 where
-  stops : (gs : List Goal) → a .kind ≡ 0 → a .next .ended ≡ true → verdictIn (a .next) ≡ from T cs text s gs → Acts T cs text s a gs
-  carries : (h k : Goal) (hs : List Goal) → a .kind ≡ 0 → a .next .ended ≡ false → a .next .open ≡ s .open → a .next .counts ≡ s .counts → Shows (a .next .goal) k
-      → from T cs text s (h ∷ hs) ≡ from T cs text (a .next) (k ∷ hs) → Acts T cs text s a (h ∷ hs)
-  parts : (h k l : Goal) (hs : List Goal) → a .kind ≡ 1 → a .next .ended ≡ false → a .next .open ≡ s .open + 1 → a .base ≡ length hs * 64
-      → a .next .counts ≡ set (s .counts) (length hs) (a .aside .count) → Shows (a .next .goal) k → Shows (a .aside) l
-      → from T cs text s (h ∷ hs) ≡ from T cs text (a .next) (k ∷ l ∷ hs) → Acts T cs text s a (h ∷ hs)
-  closes : (h : Goal) → a .kind ≡ 0 → a .next .ended ≡ false → a .next .open ≡ 0 → from T cs text s (h ∷ []) ≡ from T cs text (a .next) []
-      → Acts T cs text s a (h ∷ [])
-  takes : (h k : Goal) (hs : List Goal) → a .kind ≡ 2 → a .next .ended ≡ false → a .next .open ≡ s .open - 1 → a .base ≡ length hs * 64
-      → a .count ≡ getD (s .counts) (length hs) 0 → a .next .counts ≡ s .counts → from T cs text s (h ∷ k ∷ hs) ≡ from T cs text (a .next) (k ∷ hs)
-      → Acts T cs text s a (h ∷ k ∷ hs)
+-- what a line does with the goals gs open, where n is the state behind it: the verdict is there; or the judge goes on with a premise; with two, of
+-- which one is stored; with none, and that was the last goal; or with the goal that is fetched
+pub data Acts (T : Table) (cs : List Sided) (text : List ℕ) (s : State) (a : Act) (n : State) : List Goal → Type 0 where
+  stops : (gs : List Goal) → a .kind ≡ 0 → n .ended ≡ true → verdictIn n ≡ from T cs text s gs → Acts T cs text s a n gs
+  carries : (h k : Goal) (hs : List Goal) → a .kind ≡ 0 → n .ended ≡ false → n .open ≡ s .open → n .counts ≡ s .counts → Shows (n .goal) k
+      → from T cs text s (h ∷ hs) ≡ from T cs text n (k ∷ hs) → Acts T cs text s a n (h ∷ hs)
+  parts : (h k l : Goal) (hs : List Goal) → a .kind ≡ 1 → n .ended ≡ false → n .open ≡ s .open + 1 → a .base ≡ length hs * 64
+      → n .counts ≡ set (s .counts) (length hs) (n .goal .count) → Shows (n .goal) k → secondOf s a ≡ map recordOf l
+      → from T cs text s (h ∷ hs) ≡ from T cs text n (k ∷ l ∷ hs) → Acts T cs text s a n (h ∷ hs)
+  closes : (h : Goal) → a .kind ≡ 0 → n .ended ≡ false → n .open ≡ 0 → from T cs text s (h ∷ []) ≡ from T cs text n [] → Acts T cs text s a n (h ∷ [])
+  takes : (h k : Goal) (hs : List Goal) → a .kind ≡ 2 → n .ended ≡ false → n .open ≡ s .open - 1 → a .base ≡ length hs * 64
+      → a .count ≡ getD (s .counts) (length hs) 0 → n .counts ≡ s .counts → from T cs text s (h ∷ k ∷ hs) ≡ from T cs text n (k ∷ hs)
+      → Acts T cs text s a n (h ∷ k ∷ hs)
 
--- an act: where it goes on it goes on behind the line; what it stores and fetches is within the room; and what it does to the goals
-pub record Acted (text ks xs ys : List ℕ) (entries : ℕ) (s : State) (a : Act) : Type 0 where
-  pub ready : a .next .ended ≡ false → Ready text ks xs ys entries (a .next) × (s .at < a .next .at)
-  pub stores : a .kind ≡ 1 → (a .aside .count ≤ 64) × (a .aside .count ≤ length (a .aside .claims)) × (a .base + 64 ≤ 1088)
+-- what the act a comes to, where n is the state behind it: where it goes on it goes on behind the line; what it stores and fetches is within the
+-- room; and what it does to the goals
+pub record Leads (text ks xs ys : List ℕ) (entries : ℕ) (s : State) (a : Act) (n : State) : Type 0 where
+  pub ready : n .ended ≡ false → Ready text ks xs ys entries n × (s .at < n .at)
+  pub stores : a .kind ≡ 1 → (0 < n .goal .count) × (n .goal .count ≤ 64) × (3 ≤ a .turn .leaves) × (a .base + 64 ≤ 1088)
   pub fetches : a .kind ≡ 2 → (a .count ≤ 64) × (a .base + 64 ≤ 1088)
-  pub acts : (cs : List Sided) (gs : List Goal) → s .open ≡ length gs → Current (s .goal) gs → Acts (tableOf ks xs ys entries) cs text s a gs
+  pub acts : (cs : List Sided) (gs : List Goal) → s .open ≡ length gs → Current (s .goal) gs → Acts (tableOf ks xs ys entries) cs text s a n gs
+
+-- an act at the state s: the state behind it can be made, and it leads there
+pub record Acted (text ks xs ys : List ℕ) (entries : ℕ) (s : State) (a : Act) : Type 0 where
+  pub makes : (s .goal .count ≤ 64) × Makes (a .turn) (s .goal) × (a .kind ≡ 1 → (0 < s .open) × (s .open ≤ 16))
+  pub leads : (n : State) → After s a n → Leads text ks xs ys entries s a n

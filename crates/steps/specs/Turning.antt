@@ -9,6 +9,7 @@ use Rattle.alc.specs.Rows.{Row, row, refusal}
 use Rattle.alc.specs.Ranges.{inRange}
 use Rattle.alc.specs.Table.{Table}
 use Rattle.alc.specs.Claims.{Goal}
+use Rattle.alc.specs.declared.Claim.{Claim as Record}
 use Rattle.alc.specs.Rules.{Step, plan}
 use Rattle.alc.specs.Goals.{premises}
 use Rattle.alc.specs.Dossier.{saying}
@@ -24,7 +25,7 @@ stepIn l = stepOf (l .word - 13) (l .n0 % 256) (l .n1 % 256) (l .n2 % 256)
 unfoldable pub turnRows : Table → ℕ → Line → Goal → ℕ → List Row
 turnRows T entries l g w = row 3 (every (inRange entries 0) (saidFields (saying l))) ∷ ruleRows (plan T (stepIn l)) g w
 
--- the number of the first row that the line does not pass, and its premises where it passes all
-pub record Turned (T : Table) (entries : ℕ) (l : Line) (g : Goal) (w : ℕ) (t : Turn) : Type 0 where
+-- the number of the first row that the line does not pass at the goal g, whose records are rs, and its premises where it passes all
+pub record Turned (T : Table) (entries : ℕ) (l : Line) (g : Goal) (rs : List Record) (w : ℕ) (t : Turn) : Type 0 where
   pub number : t .number ≡ refusal (turnRows T entries l g w)
-  pub leaves : t .number ≡ 0 → Leaves t (premises (plan T (stepIn l)) g)
+  pub leaves : t .number ≡ 0 → Leaves rs t (premises (plan T (stepIn l)) g)

@@ -1,6 +1,8 @@
 // The steps of a derivation, read line by line: each works on the current goal and leaves its premises. The rules come from `goals`, the
 // lines from `lines`, and no byte is seen here.
+use alc::Concept;
 use alc::Goal;
+use alc::Name;
 use goals::Entry;
 use goals::Step;
 use goals::Turn;
@@ -9,15 +11,16 @@ use lines::Next;
 ghost use mathlib.Core.Path.{_≡_};
 ghost use mathlib.Core.List.{List, [], _∷_};
 ghost use Prim.Native.Nat.{_+_, _-_, _<_, _≤_, _%_};
-ghost use lib.ListN.{length, drop};
+ghost use lib.ListN.{length};
 ghost use Rattle.lines.specs.Text.{linesOf};
 ghost use Rattle.alc.specs.Claims.{Sided};
 ghost use Rattle.alc.specs.Table.{entry, entryOf};
-ghost use Rattle.alc.specs.Shown.{kindAt, tableOf, Shows as ShowsGoal, answered};
+ghost use Rattle.alc.specs.Shown.{kindAt, tableOf, records, Shows as ShowsGoal, answered};
+ghost use Rattle.goals.specs.Records.{Makes};
 ghost use Rattle.alc.specs.Verdict.{judge};
 ghost use Rattle.heading.specs.Parts.{Columns, inSteps};
 ghost use Rattle.steps.specs.Turning.{Turned};
-ghost use Rattle.steps.specs.Acting.{Fits, begunOf, restingOf, stoppedOf, passedOf, tookOf, partedOf, closedOf, Ready, Acted};
+ghost use Rattle.steps.specs.Acting.{Fits, begunOf, idleOf, stoppedOf, passedOf, tookOf, partedOf, closedOf, Ready, After, Aside, Acted};
 
 // The entry of number i in a table of so many, and `top` past its end: the second field of `id-link` is a name, which no rule looks up.
 fn entry_at(kinds: &[u8], firsts: &[u8], seconds: &[u8], entries: usize, i: usize) -> Entry
@@ -62,14 +65,18 @@ fn turn_at(
     waiting: usize,
 ) -> Turn
     requires { ⌜ Columns (now kinds) (now firsts) (now seconds) entries × Fits (now kinds) (now firsts) (now seconds) entries × (13 ≤ l .word) × (l .word < 32) × (g .count ≤ 64) × (waiting ≤ 16) ⌝ }
-    ensures { λ r. ⌜ (((cs : List Sided) → ShowsGoal g cs → Turned (tableOf (now (kinds .entry)) (now (firsts .entry)) (now (seconds .entry)) entries) entries l cs waiting r) × (r .under .count ≤ 64) × (r .over .count ≤ 64) × (r .opens ≤ 2) × (r .number ≡ 0 → r .opens + waiting ≤ 17)) ⌝ }
+    ensures { λ r. ⌜ (((cs : List Sided) → ShowsGoal g cs → Turned (tableOf (now (kinds .entry)) (now (firsts .entry)) (now (seconds .entry)) entries) entries l cs (records g) waiting r) × (r .number ≡ 0 → Makes r g × (r .opens + waiting ≤ 17)) × (r .opens ≤ 2)) ⌝ }
 {
     if !heading::ranged(l, entries, 0) {
+        let none = alc::is(0, Name(0), Concept(0));
         return Turn {
             number: 3,
             opens: 0,
-            under: g,
-            over: g,
+            at: 0,
+            kept: 0,
+            leaves: 0,
+            first: none,
+            second: none,
         };
     }
     let s = made_step(l);
@@ -94,14 +101,20 @@ pub struct State {
     pub number: u8,
 }
 
-// What a line asks of the room: nothing (0), that the goal `aside` is stored from `base` on (1), or that the goal of `count` claims there
-// becomes the current one (2); and the state behind the line.
+// What a line does: what it asks of the room, its turn at the current goal, and the numbers of the state behind it. Like a turn it holds no goal.
 pub struct Act {
+    // nothing is asked (0), or that the second premise, of `count` claims, is stored from `base` on (1), or that the goal of `count` claims there
+    // becomes the current one (2)
     pub kind: u8,
     pub base: usize,
     pub count: usize,
-    pub aside: Goal,
-    pub next: State,
+    pub turn: Turn,
+    pub open: usize,
+    pub steps: usize,
+    pub lines: usize,
+    pub at: usize,
+    pub ended: bool,
+    pub number: u8,
 }
 
 // The state at the first step: the claims of the file are the only goal.
@@ -120,88 +133,122 @@ pub fn begun(claims: Goal, at: usize, lines: usize) -> State
     }
 }
 
-// Nothing is asked of the room.
-fn resting(next: State) -> Act
-    ensures { λ r. ⌜ r ≡ restingOf next ⌝ }
+// The turn that leaves a goal of n claims as it is.
+fn idle(n: usize) -> Turn
+    ensures { λ r. ⌜ r ≡ idleOf n ⌝ }
 {
-    let goal = next.goal;
-    Act {
-        kind: 0,
-        base: 0,
-        count: 0,
-        aside: goal,
-        next: next,
+    let none = alc::is(0, Name(0), Concept(0));
+    Turn {
+        number: 0,
+        opens: 0,
+        at: n,
+        kept: n,
+        leaves: 0,
+        first: none,
+        second: none,
     }
 }
 
 // The verdict is there, with its number and line.
 fn stopped(s: State, number: u8, line: usize) -> Act
-    ensures { λ r. ⌜ r ≡ restingOf (stoppedOf s number line) ⌝ }
+    ensures { λ r. ⌜ r ≡ stoppedOf s number line ⌝ }
 {
-    let mut next = s;
-    next.ended = true;
-    next.number = number;
-    next.lines = line;
-    resting(next)
+    Act {
+        kind: 0,
+        base: 0,
+        count: 0,
+        turn: idle(s.goal.count),
+        open: s.open,
+        steps: s.steps,
+        lines: line,
+        at: s.at,
+        ended: true,
+        number: number,
+    }
 }
 
-// The line is a step that passes, and the text is read up to behind it.
-fn passed(s: State, line: usize, at: usize) -> State
+// The line is a step that passes, with its turn, and the text is read up to behind it: what it asks of the room, and how many goals are open.
+fn passed(
+    s: State,
+    t: Turn,
+    line: usize,
+    at: usize,
+    kind: u8,
+    base: usize,
+    count: usize,
+    open: usize,
+) -> Act
     requires { ⌜ s .steps < 1024 ⌝ }
-    ensures { λ r. ⌜ r ≡ passedOf s line at ⌝ }
+    ensures { λ r. ⌜ r ≡ passedOf s t line at kind base count «open» ⌝ }
 {
-    let mut next = s;
-    next.steps = s.steps + 1;
-    next.lines = line;
-    next.at = at;
-    next
-}
-
-// One premise: it becomes the current goal.
-fn carried(s: State, premise: Goal) -> Act
-    ensures { λ r. ⌜ r ≡ restingOf (tookOf s premise) ⌝ }
-{
-    resting(took(s, premise))
+    Act {
+        kind: kind,
+        base: base,
+        count: count,
+        turn: t,
+        open: open,
+        steps: s.steps + 1,
+        lines: line,
+        at: at,
+        ended: s.ended,
+        number: s.number,
+    }
 }
 
 // Two premises: the first becomes the current goal, and the second waits.
-fn parted(s: State, first: Goal, second: Goal) -> Act
-    requires { ⌜ (0 < s .open) × (s .open ≤ 16) × (second .count ≤ 64) ⌝ }
-    ensures { λ r. ⌜ (r ≡ partedOf s first second) × (second .count ≤ length (second .claims)) ⌝ }
+fn parted(s: State, t: Turn, line: usize, at: usize) -> Act
+    requires { ⌜ (0 < s .open) × (s .open ≤ 16) × (s .steps < 1024) × (t .kept ≤ 64) ⌝ }
+    ensures { λ r. ⌜ r ≡ partedOf s t line at ⌝ }
 {
     let waiting = s.open - 1;
-    let mut next = took(s, first);
-    next.counts[waiting] = second.count;
-    next.open = s.open + 1;
-    Act {
-        kind: 1,
-        base: waiting * 64,
-        count: 0,
-        aside: second,
-        next: next,
-    }
+    passed(s, t, line, at, 1, waiting * 64, t.kept + 1, s.open + 1)
 }
 
 // The goal closes: the one put aside last becomes current, where one waits.
-fn closed(s: State) -> Act
-    requires { ⌜ (0 < s .open) × (s .open ≤ 17) ⌝ }
-    ensures { λ r. ⌜ r ≡ closedOf s ⌝ }
+fn closed(s: State, t: Turn, line: usize, at: usize) -> Act
+    requires { ⌜ (0 < s .open) × (s .open ≤ 17) × (s .steps < 1024) ⌝ }
+    ensures { λ r. ⌜ r ≡ closedOf s t line at ⌝ }
 {
     let waiting = s.open - 1;
-    let mut next = s;
-    next.open = waiting;
     if waiting == 0 {
-        return resting(next);
+        return passed(s, t, line, at, 0, 0, 0, waiting);
     }
     let last = waiting - 1;
+    passed(s, t, line, at, 2, last * 64, s.counts[last], waiting)
+}
+
+// The state behind an act at the state s: the turn's first premise is the current goal, and where a second waits its place has its count.
+pub fn after(s: State, a: Act) -> State
+    requires { ⌜ (s .goal .count ≤ 64) × Makes (a .turn) (s .goal) × (a .kind ≡ 1 → (0 < s .open) × (s .open ≤ 16)) ⌝ }
+    ensures { λ r. ⌜ After s a r ⌝ }
+{
     let goal = s.goal;
-    Act {
-        kind: 2,
-        base: last * 64,
-        count: s.counts[last],
-        aside: goal,
-        next: next,
+    let turn = a.turn;
+    let mut counts = s.counts;
+    if a.kind == 1 {
+        let waiting = s.open - 1;
+        counts[waiting] = a.count;
     }
+    State {
+        goal: turns::premise(goal, turn),
+        counts: counts,
+        open: a.open,
+        steps: a.steps,
+        lines: a.lines,
+        at: a.at,
+        ended: a.ended,
+        number: a.number,
+    }
+}
+
+// The second premise, where the state n behind the act a has the first.
+pub fn aside(n: State, a: Act) -> Goal
+    requires { ⌜ (0 < n .goal .count) × (n .goal .count ≤ 64) ⌝ }
+    ensures { λ r. ⌜ Aside n a r ⌝ }
+{
+    let goal = n.goal;
+    let turn = a.turn;
+    turns::other(goal, turn)
 }
 
 // The state with another current goal.
@@ -240,16 +287,13 @@ pub fn act_at(
             if k != 0 {
                 return stopped(s, k, line);
             }
-            let p = passed(s, line, next);
-            let under = t.under;
             if t.opens == 0 {
-                return closed(p);
+                return closed(s, t, line, next);
             }
             if t.opens == 1 {
-                return carried(p, under);
+                return passed(s, t, line, next, 0, 0, 0, s.open);
             }
-            let over = t.over;
-            return parted(p, over, under);
+            return parted(s, t, line, next);
         }
         Next::Bad => {
             return stopped(s, 2, line);

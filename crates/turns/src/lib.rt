@@ -7,17 +7,18 @@ use goals::Step;
 use goals::Turn;
 ghost use mathlib.Core.Path.{_≡_};
 ghost use mathlib.Core.List.{List, [], _++_};
-ghost use Prim.Native.Nat.{_+_, _<_, _≤_};
+ghost use Prim.Native.Nat.{_+_, _-_, _<_, _≤_};
 ghost use lib.ListN.{length, getD};
-ghost use mathlib.Core.Bool.{true, not};
+ghost use mathlib.Core.Bool.{not};
 ghost use lib.Dec.{leb};
 ghost use Rattle.alc.specs.Rows.{refusal};
-ghost use Rattle.alc.specs.Lists.{any, every};
+ghost use Rattle.alc.specs.Lists.{any, every, firstAt};
 ghost use Rattle.alc.specs.Shown.{records, kindAt, Shows as ShowsGoal};
+ghost use Rattle.alc.specs.declared.Claim.{Claim as Record};
 ghost use Rattle.alc.specs.Claims.{Sided};
 ghost use Rattle.alc.specs.Table.{Table, entry, entryOf};
 ghost use Rattle.alc.specs.Rules.{plan};
-ghost use Rattle.goals.specs.Records.{sameRecord, hasName, keeping, stepOf, asks, upTo, newsBy, added, recordRows, Turns};
+ghost use Rattle.goals.specs.Records.{sameRecord, hasName, keeping, stepOf, asks, upTo, newsBy, added, recordRows, cutAt, premiseAt, Makes, Turns};
 
 // Whether the entry is of the kind that the plan asks.
 fn asked(p: Plan, kind: u8) -> bool
@@ -30,15 +31,15 @@ fn asked(p: Plan, kind: u8) -> bool
     p.kind == kind
 }
 
-// Whether the goal has all that the plan needs.
-fn needed(g: Goal, p: Plan) -> bool
-    requires { ⌜ g .count ≤ 64 ⌝ }
+// Whether the goal has all that the plan needs, where its first claim needed is first found at a place.
+fn needed(g: Goal, p: Plan, at: usize) -> bool
+    requires { ⌜ (g .count ≤ 64) × (at ≡ firstAt (sameRecord (p .need)) (records g)) ⌝ }
     ensures { λ r. ⌜ r ≡ every (λ c. any (sameRecord c) (records g)) (upTo (p .needs) (p .need) (p .also)) ⌝ }
 {
     if p.needs == 0 {
         return true;
     }
-    if !goals::has(g, p.need) {
+    if at >= g.count {
         return false;
     }
     if p.needs == 1 {
@@ -59,33 +60,42 @@ fn is_new(g: Goal, p: Plan) -> bool
     true
 }
 
-// The goal that a premise's claims are added to.
-fn kept(g: Goal, p: Plan) -> Goal
-    requires { ⌜ g .count ≤ 64 ⌝ }
-    ensures { λ r. ⌜ (records r ≡ keeping (p .drops) (upTo (p .needs) (p .need) (p .also)) (records g)) × (r .count ≤ 64) ⌝ }
+// The place of the claim that goes, of n, or n where none does; the first claim needed is first found at `at`.
+fn leaving(n: usize, p: Plan, at: usize) -> usize
+    requires { ⌜ at ≤ n ⌝ }
+    ensures { λ r. ⌜ ((l : List Record) → length l ≡ n → at ≡ firstAt (sameRecord (p .need)) l → cutAt r l ≡ keeping (p .drops) (upTo (p .needs) (p .need) (p .also)) l) × (r ≤ n) ⌝ }
 {
     let drops = p.drops;
     if p.needs == 0 {
-        return g;
+        return n;
     }
     if drops {
-        return goals::without(g, p.need);
+        return at;
     }
-    g
+    n
 }
 
-// Whether no premise has over 64 claims, when it adds to the goal k.
-fn fits(k: Goal, p: Plan) -> bool
-    requires { ⌜ k .count ≤ 64 ⌝ }
-    ensures { λ r. ⌜ r ≡ every (λ l. leb (length (records k ++ l)) 64) (added (p .leaves) (p .first) (p .second)) ⌝ }
+// How many of n claims stay, where the one at a place goes.
+fn staying(n: usize, at: usize) -> usize
+    ensures { λ r. ⌜ (at ≤ n → r ≡ at + (n - (at + 1))) ⌝ }
+{
+    if at < n {
+        return n - 1;
+    }
+    n
+}
+
+// Whether no premise has over 64 claims, when it adds to n claims.
+fn fits(n: usize, p: Plan) -> bool
+    ensures { λ r. ⌜ ((k : List Record) → length k ≡ n → r ≡ every (λ l. leb (length (k ++ l)) 64) (added (p .leaves) (p .first) (p .second))) ⌝ }
 {
     if p.leaves == 0 {
         return true;
     }
     if p.leaves == 2 {
-        return k.count < 63;
+        return n < 63;
     }
-    k.count < 64
+    n < 64
 }
 
 // How many premises the plan leaves.
@@ -101,21 +111,22 @@ fn open(p: Plan) -> usize
     2
 }
 
-// The number of the first row that the step does not pass at the goal g, of which it keeps k, with so many goals waiting; 0 if it passes all.
-fn refused(g: Goal, k: Goal, p: Plan, kind: u8, waiting: usize) -> u8
-    requires { ⌜ (g .count ≤ 64) × (k .count ≤ 64) × (kind < 8) × (waiting ≤ 16) ⌝ }
-    ensures { λ r. ⌜ r ≡ refusal (recordRows kind p (records g) (records k) waiting) ⌝ }
+// The number of the first row that the step does not pass at the goal g, of which it keeps n claims, with so many goals waiting; 0 if it passes
+// all.
+fn refused(g: Goal, p: Plan, at: usize, n: usize, kind: u8, waiting: usize) -> u8
+    requires { ⌜ (g .count ≤ 64) × (at ≡ firstAt (sameRecord (p .need)) (records g)) × (kind < 8) × (waiting ≤ 16) ⌝ }
+    ensures { λ r. ⌜ ((k : List Record) → length k ≡ n → r ≡ refusal (recordRows kind p (records g) k waiting)) ⌝ }
 {
     if !asked(p, kind) {
         return 6;
     }
-    if !needed(g, p) {
+    if !needed(g, p, at) {
         return 7;
     }
     if !is_new(g, p) {
         return 8;
     }
-    if !fits(k, p) {
+    if !fits(n, p) {
         return 10;
     }
     if open(p) + waiting > 17 {
@@ -124,59 +135,66 @@ fn refused(g: Goal, k: Goal, p: Plan, kind: u8, waiting: usize) -> u8
     0
 }
 
-// The first premise, from the goal kept.
-fn first_premise(k: Goal, p: Plan) -> Goal
-    requires { ⌜ (k .count ≤ 64) × (every (λ l. leb (length (records k ++ l)) 64) (added (p .leaves) (p .first) (p .second)) ≡ true) ⌝ }
-    ensures { λ r. ⌜ (records r ≡ records k ++ getD (added (p .leaves) (p .first) (p .second)) 0 []) × (r .count ≤ 64) ⌝ }
-{
-    if p.leaves == 0 {
-        return k;
-    }
-    let one = goals::with(k, p.first);
-    if p.leaves == 2 {
-        return goals::with(one, p.second);
-    }
-    one
-}
-
-// The second premise, from the goal kept.
-fn second_premise(k: Goal, p: Plan) -> Goal
-    requires { ⌜ (k .count ≤ 64) × (3 ≤ p .leaves) × (every (λ l. leb (length (records k ++ l)) 64) (added (p .leaves) (p .first) (p .second)) ≡ true) ⌝ }
-    ensures { λ r. ⌜ (records r ≡ records k ++ getD (added (p .leaves) (p .first) (p .second)) 1 []) × (r .count ≤ 64) ⌝ }
-{
-    goals::with(k, p.second)
-}
-
 // One step at the goal g, at the entry of its second field, with so many goals waiting.
 pub fn turn_of(g: Goal, s: Step, e: Entry, waiting: usize) -> Turn
     requires { ⌜ (g .count ≤ 64) × (s .rule < 19) × (e .kind < 8) × (waiting ≤ 16) ⌝ }
-    ensures { λ r. ⌜ (((T : Table) (cs : List Sided) → entry T (s .y) ≡ entryOf (kindAt (e .kind)) (e .x) (e .y) → ShowsGoal g cs → Turns (plan T (stepOf (s .rule) (s .x) (s .y) (s .z))) cs waiting r) × (r .under .count ≤ 64) × (r .over .count ≤ 64) × (r .opens ≤ 2) × (r .number ≡ 0 → r .opens + waiting ≤ 17)) ⌝ }
+    ensures { λ r. ⌜ (((T : Table) (cs : List Sided) → entry T (s .y) ≡ entryOf (kindAt (e .kind)) (e .x) (e .y) → ShowsGoal g cs → Turns (plan T (stepOf (s .rule) (s .x) (s .y) (s .z))) cs (records g) waiting r) × (r .number ≡ 0 → Makes r g × (r .opens + waiting ≤ 17)) × (r .opens ≤ 2)) ⌝ }
 {
     let p = rules::plan_of(s, e);
-    let k = kept(g, p);
-    let number = refused(g, k, p, e.kind, waiting);
-    if number != 0 {
-        return Turn {
-            number: number,
-            opens: 0,
-            under: g,
-            over: g,
-        };
-    }
-    let opens = open(p);
-    let over = first_premise(k, p);
-    if opens == 2 {
-        return Turn {
-            number: 0,
-            opens: 2,
-            under: second_premise(k, p),
-            over: over,
-        };
-    }
+    let found = goals::find(g, p.need);
+    let n = g.count;
+    let at = leaving(n, p, found);
+    let kept = staying(n, at);
+    let first = p.first;
+    let second = p.second;
     Turn {
-        number: 0,
-        opens: opens,
-        under: over,
-        over: over,
+        number: refused(g, p, found, kept, e.kind, waiting),
+        opens: open(p),
+        at: at,
+        kept: kept,
+        leaves: p.leaves,
+        first: first,
+        second: second,
     }
+}
+
+// The first premise that the turn makes of the goal g: the claims behind the one that goes move up, and what comes is written behind the last.
+pub fn premise(g: Goal, t: Turn) -> Goal
+    requires { ⌜ (g .count ≤ 64) × Makes t g ⌝ }
+    ensures { λ r. ⌜ (records r ≡ premiseAt 0 t (records g)) × (r .count ≤ 64) × (r .count ≡ t .kept + length (getD (added (t .leaves) (t .first) (t .second)) 0 [])) ⌝ }
+{
+    let n = t.kept;
+    let mut out = g;
+    let mut i = t.at;
+    while i < n {
+        let c = out.claims[i + 1];
+        out.claims[i] = c;
+        i += 1;
+    }
+    if t.leaves == 0 {
+        out.count = n;
+        return out;
+    }
+    let first = t.first;
+    out.claims[n] = first;
+    if t.leaves == 2 {
+        let second = t.second;
+        out.claims[n + 1] = second;
+        out.count = n + 2;
+        return out;
+    }
+    out.count = n + 1;
+    out
+}
+
+// The second of two premises, from the first: they differ in the last claim alone.
+pub fn other(g: Goal, t: Turn) -> Goal
+    requires { ⌜ (0 < g .count) × (g .count ≤ 64) ⌝ }
+    ensures { λ r. ⌜ ((l : List Record) → records g ≡ premiseAt 0 t l → 3 ≤ t .leaves → records r ≡ premiseAt 1 t l) × (r .count ≡ g .count) × (r .count ≤ length (r .claims)) ⌝ }
+{
+    let last = g.count - 1;
+    let mut out = g;
+    let second = t.second;
+    out.claims[last] = second;
+    out
 }

@@ -2,7 +2,7 @@
 -- Waits. Assumes nothing.
 use mathlib.Core.Path.{_≡_, refl, sym, ap, subst, _∙_}
 use mathlib.Core.List.{List, [], _∷_}
-use Prim.Native.Nat.{ℕ, _≤_, _+_}
+use Prim.Native.Nat.{ℕ, _<_, _≤_, _+_}
 use native.Mathlib.Omega.{arith}
 use lib.ListN.{length}
 use mir.Syntax.{w8, eq, named, erased}
@@ -20,7 +20,7 @@ use Rattle.room.proofs.Claims.{claim, num}
 use Rattle.room.specs.Stored.{stored, fetched, goalOf}
 use Rattle.alc.specs.declared.Claim.{Claim}
 use Rattle.alc.specs.declared.Goal.{Goal}
-use Rattle.steps.specs.Acting.{tookOf, Ready, Acted}
+use Rattle.steps.specs.Acting.{tookOf, Ready, After, Aside, Leads, Acted}
 use Rattle.steps.specs.declared.State.{State}
 use Rattle.steps.specs.declared.Act.{Act}
 use Rattle.derivation.specs.Waiting.{Stepped}
@@ -33,38 +33,43 @@ use Rattle.derivation.proofs.step.Statement.{statement}
 use Rattle.derivation.proofs.step.Code as code
 
 -- the laws of Waits, at what the functions by value give
-module _ (text ks xs ys : List ℕ) (entries : ℕ) (l : List Claim) (s : State) (pre : (1088 ≤ length l) × Ready text ks xs ys entries s) (a : Act) (d : Acted text ks xs ys entries s a) where
+module _ (text ks xs ys : List ℕ) (entries : ℕ) (l : List Claim) (s : State) (pre : (1088 ≤ length l) × Ready text ks xs ys entries s) (a : Act) (d : Acted text ks xs ys entries s a) (n : State)
+    (f : After s a n) where
+  there : Leads text ks xs ys entries s a n
+  there = d .leads n f
+
+  -- the second premise can be made
+  second : a .kind ≡ 1 → (0 < n .goal .count) × (n .goal .count ≤ 64)
+  second is1 = let h = there .stores is1 in (h .0, h .1)
+
   -- what is stored, and what is fetched, is within the room
-  place : a .kind ≡ 1 → (base : ℕ) (g : Goal) → base ≡ a .base → g ≡ a .aside → (g .count ≤ 64) × (base + g .count ≤ length l)
-  place is1 base g eb eg = let h = d .stores is1 in rw (eb, eg) (h .0, omega (arith, h .0, h .2, pre .0))
+  place : a .kind ≡ 1 → (base : ℕ) (g : Goal) → base ≡ a .base → Aside n a g → (g .count ≤ 64) × (base + g .count ≤ length l)
+  place is1 base g eb h = let k = there .stores is1 in (omega (arith, k .1, h .count), omega (arith, k .1, k .3, h .count, eb, pre .0))
 
-  part : a .kind ≡ 2 → (base n : ℕ) → base ≡ a .base → n ≡ a .count → (n ≤ 64) × (base + n ≤ length l)
-  part is2 base n eb en = let h = d .fetches is2 in rw (eb, en) (h .0, omega (arith, h .0, h .1, pre .0))
+  part : a .kind ≡ 2 → (base m : ℕ) → base ≡ a .base → m ≡ a .count → (m ≤ 64) × (base + m ≤ length l)
+  part is2 base m eb en = let h = there .fetches is2 in rw (eb, en) (h .0, omega (arith, h .0, h .1, pre .0))
 
-  storing : a .kind ≡ 1 → (base : ℕ) (g : Goal) (r : State) (m : List Claim) → base ≡ a .base → g ≡ a .aside → r ≡ a .next → m ≡ stored l base (g .claims) (g .count)
-      → Stepped text ks xs ys entries l s m r
-  storing is1 base g r m eb eg er em =
-      subst (Stepped text ks xs ys entries l s m) (sym er) (stores text ks xs ys entries l s (pre .0) (pre .1) a d m is1 (em ∙ rw (eb, eg)))
+  storing : a .kind ≡ 1 → (base : ℕ) (g : Goal) (m : List Claim) → base ≡ a .base → Aside n a g → m ≡ stored l base (g .claims) (g .count) → Stepped text ks xs ys entries l s m n
+  storing is1 base g m eb h em = stores text ks xs ys entries l s (pre .0) (pre .1) a n f there g m h is1 (em ∙ rw eb)
 
-  fetching : a .kind ≡ 2 → (base n : ℕ) (g : Goal) (next r : State) → base ≡ a .base → n ≡ a .count → g ≡ goalOf (fetched l base n) n → next ≡ a .next → r ≡ tookOf next g
-      → Stepped text ks xs ys entries l s l r
-  fetching is2 base n g next r eb en ef ex er =
-      subst (Stepped text ks xs ys entries l s l) (sym (er ∙ ap (λ (t : State). tookOf t g) ex)) (fetches text ks xs ys entries l s (pre .0) (pre .1) a d g is2 (ef ∙ rw (eb, en)))
+  fetching : a .kind ≡ 2 → (base k : ℕ) (g : Goal) (r : State) → base ≡ a .base → k ≡ a .count → g ≡ goalOf (fetched l base k) k → r ≡ tookOf n g → Stepped text ks xs ys entries l s l r
+  fetching is2 base k g r eb en ef er =
+      subst (Stepped text ks xs ys entries l s l) (sym er) (fetches text ks xs ys entries l s (pre .0) (pre .1) a n f there g is2 (ef ∙ rw (eb, en)))
 
-  resting : (a .kind ≡ 1 → ⊥) → (a .kind ≡ 2 → ⊥) → (r : State) → r ≡ a .next → Stepped text ks xs ys entries l s l r
-  resting not1 not2 r er = subst (Stepped text ks xs ys entries l s l) (sym er) (rests text ks xs ys entries l s (pre .0) (pre .1) a d not1 not2)
+  resting : (a .kind ≡ 1 → ⊥) → (a .kind ≡ 2 → ⊥) → Stepped text ks xs ys entries l s l n
+  resting not1 not2 = rests text ks xs ys entries l s (pre .0) (pre .1) a n f there not1 not2
 
-module _ (w : World) (store : Knows (fun RC.store) w code.env) (fetch : Knows (fun RC.fetch) w code.env) (act-at : Knows F.act-at w code.env) (kind-of : Knows F.kind-of w code.env) (next-of : Knows F.next-of w code.env) (base-of : Knows F.base-of w code.env) (aside-of : Knows F.aside-of w code.env) (count-of : Knows F.count-of w code.env) (took : Knows F.took w code.env) where
+module _ (w : World) (store : Knows (fun RC.store) w code.env) (fetch : Knows (fun RC.fetch) w code.env) (act-at : Knows F.act-at w code.env) (kind-of : Knows F.kind-of w code.env) (after : Knows F.after w code.env) (base-of : Knows F.base-of w code.env) (aside : Knows F.aside w code.env) (count-of : Knows F.count-of w code.env) (took : Knows F.took w code.env) where
   unfoldable body : Body! C.step 1 code.function w code.env
   body κs qs bs =
       calls F.act-at act-at 8 (1 ∷ 2 ∷ 3 ∷ 4 ∷ []) (record { pos = 2; ty = τ 1; ref = λ x. x }, (record { pos = 3; ty = τ 2; ref = λ x. x }, (record { pos = 4; ty = τ 3; ref = λ x. x }, (record { pos = 5; ty = τ 4; ref = λ x. x }, (vAt 6 (λ x. x), (record { pos = 7; st = []; d = 0; at = λ x. x }, tt)))))) (search rules, search rules, refl, (search rules, search rules, refl, (search rules, search rules, refl, (search rules, search rules, refl, (search rules, (search rules, tt)))))) (search rules) ▸
       calls F.kind-of kind-of 9 [] (record { pos = 8; st = []; d = 0; at = λ x. x }, tt) (search rules) (search rules) ▸
-      calls F.next-of next-of 10 [] (record { pos = 8; st = []; d = 0; at = λ x. x }, tt) (search rules) (search rules) ▸
+      calls F.after after 10 [] (record { pos = 7; st = []; d = 0; at = λ x. x }, (record { pos = 8; st = []; d = 0; at = λ x. x }, tt)) (search rules, (search rules, tt)) (search rules) ▸
       calcs 12 sBool eq (oAt 9 i8 (valS byte)) (oInt w8 1) (search rules) ▸
       joins (conds 12 (λ x. x) (search rules) (
       lends (claim .R) 1 14 15 0 5 (named 0) (lease (κs .0) (qs .0)) (λ x. x) (λ x. x) (λ x. x) (tts 22) (search rules) (search rules) (
       calls F.base-of base-of 16 [] (record { pos = 8; st = []; d = 0; at = λ x. x }, tt) (search rules) (search rules) ▸
-      calls F.aside-of aside-of 17 [] (record { pos = 8; st = []; d = 0; at = λ x. x }, tt) (search rules) (search rules) ▸
+      calls F.aside aside 17 [] (record { pos = 10; st = []; d = 0; at = λ x. x }, (record { pos = 8; st = []; d = 0; at = λ x. x }, tt)) (search rules, (search rules, tt)) (search rules) ▸
       calls (fun RC.store) store 13 (5 ∷ []) (record { pos = 15; ty = ref (claim .R) erased; ref = λ x. x }, (vAt 16 (λ x. x), (record { pos = 17; st = []; d = 0; at = λ x. x }, tt))) (search rules, search rules, refl, (search rules, (search rules, tt))) (search rules) ▸
       backs (claim .R) 15 1 0 5 (named 0) (lease (κs .0) (qs .0)) (λ x. x) (λ x. x) (search rules) ▹
       copies state 10 0 (λ x. x) (λ x. x) (search rules) ▸
@@ -92,7 +97,7 @@ module _ (w : World) (store : Knows (fun RC.store) w code.env) (fetch : Knows (f
     λ a. (
       λ _. tt,
       λ k. (
-        λ _. tt,
+        λ _. a .5 .makes,
         λ next. (
           tt,
           (
@@ -102,12 +107,12 @@ module _ (w : World) (store : Knows (fun RC.store) w code.env) (fetch : Knows (f
                   (
                     λ _. tt,
                     λ base. (
-                      λ _. tt,
+                      λ _. second (text .now) (kinds .now) (firsts .now) (seconds .now) entries (room .now) s pre (a .1) (a .5) (next .1) (next .5) is1,
                       λ g. (
-                        λ _. place (text .now) (kinds .now) (firsts .now) (seconds .now) entries (room .now) s pre (a .1) (a .5) is1 (base .1) (g .1) (base .5) (g .5),
+                        λ _. place (text .now) (kinds .now) (firsts .now) (seconds .now) entries (room .now) s pre (a .1) (a .5) (next .1) (next .5) is1 (base .1) (g .1) (base .5) (g .5),
                         λ st. (
                           refl,
-                          λ same. ((same-len room (st .2 .0) same, (refl, (refl, (refl, (refl, (tt, (tt, tt))))))), storing (text .now) (kinds .now) (firsts .now) (seconds .now) entries (room .now) s pre (a .1) (a .5) is1 (base .1) (g .1) (next .1) (st .2 .0) (base .5) (g .5) (next .5) (st .5)),
+                          λ same. ((same-len room (st .2 .0) same, (refl, (refl, (refl, (refl, (tt, (tt, tt))))))), storing (text .now) (kinds .now) (firsts .now) (seconds .now) entries (room .now) s pre (a .1) (a .5) (next .1) (next .5) is1 (base .1) (g .1) (st .2 .0) (base .5) (g .5) (st .5)),
                         ),
                       ),
                     ),
@@ -124,10 +129,10 @@ module _ (w : World) (store : Knows (fun RC.store) w code.env) (fetch : Knows (f
                         λ base. (
                           λ _. tt,
                           λ n. (
-                            λ _. part (text .now) (kinds .now) (firsts .now) (seconds .now) entries (room .now) s pre (a .1) (a .5) is2 (base .1) (n .1) (base .5) (n .5),
+                            λ _. part (text .now) (kinds .now) (firsts .now) (seconds .now) entries (room .now) s pre (a .1) (a .5) (next .1) (next .5) is2 (base .1) (n .1) (base .5) (n .5),
                             λ f. (
                               λ _. tt,
-                              λ r. ((refl, (refl, (refl, (refl, (refl, (tt, (tt, tt))))))), fetching (text .now) (kinds .now) (firsts .now) (seconds .now) entries (room .now) s pre (a .1) (a .5) is2 (base .1) (n .1) (f .1) (next .1) (r .1) (base .5) (n .5) (f .5) (next .5) (r .5)),
+                              λ r. ((refl, (refl, (refl, (refl, (refl, (tt, (tt, tt))))))), fetching (text .now) (kinds .now) (firsts .now) (seconds .now) entries (room .now) s pre (a .1) (a .5) (next .1) (next .5) is2 (base .1) (n .1) (f .1) (r .1) (base .5) (n .5) (f .5) (r .5)),
                             ),
                           ),
                         ),
@@ -135,7 +140,7 @@ module _ (w : World) (store : Knows (fun RC.store) w code.env) (fetch : Knows (f
                     ),
                 λ test′.
                     let not2 : a .1 .kind ≡ 2 → ⊥ = λ (e : a .1 .kind ≡ 2). eqb-false (k .1) 2 test′ (k .5 ∙ e) in
-                    ((refl, (refl, (refl, (refl, (refl, (tt, (tt, tt))))))), resting (text .now) (kinds .now) (firsts .now) (seconds .now) entries (room .now) s pre (a .1) (a .5) not1 not2 (next .1) (next .5)),
+                    ((refl, (refl, (refl, (refl, (refl, (tt, (tt, tt))))))), resting (text .now) (kinds .now) (firsts .now) (seconds .now) entries (room .now) s pre (a .1) (a .5) (next .1) (next .5) not1 not2),
               ),
             ),
           ),
@@ -152,9 +157,9 @@ step-spec 𝓤 H 𝓜 𝓖 𝓡 =
     let fetch = knows RC.fetch w code.env R.fetch.Symbol.routine code.calls-room·fetch (R.fetch.Met.met 𝓤 H 𝓜 𝓖 𝓡) in
     let act-at = F.act-at! w code.env code.calls-steps·act-at in
     let kind-of = F.kind-of! w code.env code.calls-derivation·kind-of in
-    let next-of = F.next-of! w code.env code.calls-derivation·next-of in
+    let after = F.after! w code.env code.calls-steps·after in
     let base-of = F.base-of! w code.env code.calls-derivation·base-of in
-    let aside-of = F.aside-of! w code.env code.calls-derivation·aside-of in
+    let aside = F.aside! w code.env code.calls-steps·aside in
     let count-of = F.count-of! w code.env code.calls-derivation·count-of in
     let took = F.took! w code.env code.calls-steps·took in
-    proved C.step 1 code.function w code.env name (code.unfolded 𝓤 H 𝓜 𝓡) (body w store fetch act-at kind-of next-of base-of aside-of count-of took) (met w store fetch act-at kind-of next-of base-of aside-of count-of took)
+    proved C.step 1 code.function w code.env name (code.unfolded 𝓤 H 𝓜 𝓡) (body w store fetch act-at kind-of after base-of aside count-of took) (met w store fetch act-at kind-of after base-of aside count-of took)

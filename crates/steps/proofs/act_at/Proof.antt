@@ -1,5 +1,5 @@
 -- `steps::act_at` meets its contract: each way through it is one law of StepWalk. Assumes nothing.
-use Prim.Native.Nat.{ℕ, _+_, _-_, _≤_}
+use Prim.Native.Nat.{ℕ, _+_, _-_, _≤_, _<_}
 use native.Mathlib.Omega.{arith}
 use mathlib.Core.List.{List, []}
 use mathlib.Core.Path.{_≡_, refl, sym, ap, subst, _∙_}
@@ -9,7 +9,8 @@ use borrow.Author.Needs.{needs}
 use Rattle.lines.specs.Text.{linesOf}
 use Rattle.reading.proofs.Loop.{Line-found, when-found, when-bad, when-end}
 use Rattle.alc.specs.declared.Goal.{Goal as Records}
-use Rattle.steps.specs.Acting.{Acted, Ready, restingOf, tookOf, closedOf, partedOf}
+use Rattle.goals.specs.Records.{Makes}
+use Rattle.steps.specs.Acting.{Acted, Ready}
 use Rattle.steps.specs.declared.State.{State}
 use Rattle.steps.specs.declared.Act.{Act}
 use Rattle.steps.proofs.StepWalk.{word, stops-5, stops-9, stops-turn, stops-bad, stops-open, stops-proved, goes-one, goes-two, goes-none}
@@ -70,60 +71,63 @@ returns-3 c =
     is (S k) _ _ (c .stopped3 .ensures) (stops-turn _ _ _ _ _ _ (S k .pre) _ _ (found (L k)) (m .before .if1 .left) (O t .if2 .left) _ (t .turn-at .ensures .0) (c .before .if3 .taken))
 
 -- the line passes
-abbrev P : tie.After-struct-known5 → tie.After-passed
-P c = c .before .before
-
 abbrev U : tie.After-struct-known5 → tie.After-turn-at
-U c = P c .before .before
+U c = c .before .before
+
+-- so its premises can be made, and there is room for them
+makes : (c : tie.After-struct-known5) → Makes (U c .turn-at .result) (S (K (O (U c) .before)) .args .s .goal) × (U c .turn-at .result .opens + (S (K (O (U c) .before)) .args .s .open - 1) ≤ 17)
+makes c = U c .turn-at .ensures .1 (c .before .if3 .left)
+
+-- there is room for a step
+room : (c : tie.After-struct-known5) → S (K (O (U c) .before)) .args .s .steps < 1024
+room c = O (U c) .before .before .if1 .left
 
 closed-requires : tie.Need-closed-requires
 closed-requires c κs =
-    let t = U (c .before) in
-    let v = S (K (O t .before)) .pre in
-    let e = ap (λ (s : State). s .open) (P (c .before) .passed .ensures) in
-    (omega (arith, e, O t .if2 .left), omega (arith, e, v .few))
+    let f = c .before in
+    let v = S (K (O (U f) .before)) .pre in
+    (omega (arith, O (U f) .if2 .left), v .few, room f)
 
 returns-4 : tie.Need-returns-4
 returns-4 c =
     let f = c .before .before in
     let t = U f in
-    let m = O t .before in
-    let k = K m in
-    is (S k) _ _ (c .closed .ensures ∙ ap closedOf (P f .passed .ensures))
-    (goes-none _ _ _ _ _ _ (S k .pre) _ _ (found (L k)) (m .before .if1 .left) (O t .if2 .left) _ (t .turn-at .ensures .0) (P f .before .if3 .left) (c .before .if4 .taken))
+    let k = K (O t .before) in
+    is (S k) _ _ (c .closed .ensures) (goes-none _ _ _ _ _ _ (S k .pre) _ _ (found (L k)) (room f) (O t .if2 .left) _ (t .turn-at .ensures .0) (f .before .if3 .left) (makes f .0) (c .before .if4 .taken))
+
+passed-requires : tie.Need-passed-requires
+passed-requires c κs = room (c .before .before .before)
 
 returns-5 : tie.Need-returns-5
 returns-5 c =
     let f = c .before .before .before .before in
     let t = U f in
-    let m = O t .before in
-    let k = K m in
-    is (S k) _ _ (c .carried .ensures ∙ ap (λ (s : State). restingOf (tookOf s (t .turn-at .result .under))) (P f .passed .ensures))
-    (goes-one _ _ _ _ _ _ (S k .pre) _ _ (found (L k)) (m .before .if1 .left) (O t .if2 .left) _ (t .turn-at .ensures .0) (P f .before .if3 .left) (t .turn-at .ensures .1) (c .before .if5 .taken))
+    let k = K (O t .before) in
+    is (S k) _ _ (c .passed .ensures) (goes-one _ _ _ _ _ _ (S k .pre) _ _ (found (L k)) (room f) (O t .if2 .left) _ (t .turn-at .ensures .0) (f .before .if3 .left) (makes f .0) (c .before .if5 .taken))
 
 -- two premises, where there are not none and not one
-two : (c : tie.After-over) → U (c .before .before .before .before) .turn-at .result .opens ≡ 2
-two c =
-    let h = c .before .before .before .before in
-    omega (arith, U h .turn-at .ensures .3, c .before .before .before .if4 .left, c .before .if5 .left)
+abbrev F : tie.Else5 → tie.After-struct-known5
+F c = c .before .before .before
+
+two : (c : tie.Else5) → U (F c) .turn-at .result .opens ≡ 2
+two c = omega (arith, U (F c) .turn-at .ensures .2, c .before .before .if4 .left, c .if5 .left)
+
+few : (c : tie.Else5) → S (K (O (U (F c)) .before)) .args .s .open ≤ 16
+few c = omega (arith, makes (F c) .1, two c, O (U (F c)) .if2 .left)
 
 parted-requires : tie.Need-parted-requires
 parted-requires c κs =
-    let f = c .before .before .before .before in
-    let t = U f in
-    let e = ap (λ (s : State). s .open) (P f .passed .ensures) in
-    (omega (arith, e, O t .if2 .left), omega (arith, e, t .turn-at .ensures .4 (P f .before .if3 .left), two c, O t .if2 .left), t .turn-at .ensures .1)
+    let m = makes (F c) .0 in
+    (omega (arith, O (U (F c)) .if2 .left), few c, room (F c), omega (arith, m .kept, m .place, S (K (O (U (F c)) .before)) .pre .small))
 
 returns-6 : tie.Need-returns-6
 returns-6 c =
-    let f = c .before .before .before .before .before in
+    let d = c .before in
+    let f = F d in
     let t = U f in
-    let m = O t .before in
-    let k = K m in
-    let u = t .turn-at .result in
-    is (S k) _ _ (c .parted .ensures .0 ∙ ap (λ (s : State). partedOf s (u .over) (u .under)) (P f .passed .ensures))
-    (goes-two _ _ _ _ _ _ (S k .pre) _ _ (found (L k)) (m .before .if1 .left) (O t .if2 .left) _ (t .turn-at .ensures .0) (P f .before .if3 .left) (t .turn-at .ensures .1) (t .turn-at .ensures .2) (c .parted .ensures .1) (two (c .before))
-    (omega (arith, t .turn-at .ensures .4 (P f .before .if3 .left), two (c .before), O t .if2 .left)))
+    let k = K (O t .before) in
+    is (S k) _ _ (c .parted .ensures)
+    (goes-two _ _ _ _ _ _ (S k .pre) _ _ (found (L k)) (room f) (O t .if2 .left) _ (t .turn-at .ensures .0) (f .before .if3 .left) (makes f .0) (two d) (few d))
 
 returns-7 : tie.Need-returns-7
 returns-7 c = let r = c .before .before .before in is (R r) _ _ (c .stopped4 .ensures) (stops-bad _ _ _ _ _ _ (R r .pre) (when-bad _ _ _ (sym (r .read .ensures) ∙ c .before .enum-told .given .1)))
@@ -156,10 +160,9 @@ act-at-spec =
     turn-at-requires
     (λ c κs. search needs)
     returns-3
-    (λ c κs. search needs)
     closed-requires
     returns-4
-    (λ c κs. search needs)
+    passed-requires
     returns-5
     parted-requires
     returns-6

@@ -10,7 +10,7 @@ use Rattle.goals.specs.declared.Step.{Step}
 use Rattle.alc.specs.Table.{Table}
 use Rattle.alc.specs.Rules.{plan}
 use Rattle.goals.specs.Records.{stepOf, Turns}
-use Rattle.alc.specs.Shown.{tableOf}
+use Rattle.alc.specs.Shown.{tableOf, records}
 use Rattle.steps.proofs.StepLaws.{turned-3, turned}
 use Rattle.steps.proofs.turn_at.Statement.{statement}
 use Rattle.steps.proofs.turn_at.Tie as tie
@@ -24,8 +24,8 @@ T s = tableOf (now (s .args .kinds)) (now (s .args .firsts)) (now (s .args .seco
 
 returns : tie.Need-returns
 returns c =
-    let s = c .before .before .before .before .before in
-    ((λ cs h. turned-3 _ _ _ cs _ _ (sym (c .before .ranged .ensures) ∙ not-true _ (c .if1 .taken)) refl), s .pre .4, s .pre .4, omega arith, λ (e : _≡_ {A = ℕ} 3 0). absurd (omega arith))
+    let t = c .before in
+    ((λ cs h. turned-3 _ _ _ cs _ _ _ (sym (t .before .ranged .ensures) ∙ not-true _ (t .if1 .taken)) refl), (λ (e : _≡_ {A = ℕ} 3 0). absurd (omega arith)), omega arith)
 
 made-step-requires : tie.Need-made-step-requires
 made-step-requires c κs = search needs
@@ -49,13 +49,11 @@ returns-2 c =
     let s = r .before .before .before .before in
     let t = c .turn-of .ensures in (
       (λ cs h.
-          turned (T s) _ _ cs _ _ (sym (r .ranged .ensures) ∙ not-false _ (m .before .if1 .left))
-          (subst (λ (q : Step). Turns (plan (T s) (stepOf (q .rule) (q .x) (q .y) (q .z))) cs (s .args .waiting) (c .turn-of .result)) (m .made-step .ensures)
+          turned (T s) _ _ cs _ _ _ (sym (r .ranged .ensures) ∙ not-false _ (m .before .if1 .left))
+          (subst (λ (q : Step). Turns (plan (T s) (stepOf (q .rule) (q .x) (q .y) (q .z))) cs (records (s .args .g)) (s .args .waiting) (c .turn-of .result)) (m .made-step .ensures)
           (t .0 (T s) cs (c .before .entry-at .ensures .0) h))),
       t .1,
       t .2,
-      t .3,
-      t .4,
     )
 
 pub turn-at-spec : {M : Type 1} → statement M
@@ -63,6 +61,7 @@ turn-at-spec =
     tie.close
     (tie.spec
     ranged-requires
+    (λ c κs. search needs)
     returns
     made-step-requires
     cast-i
