@@ -4,6 +4,14 @@ ghost use mathlib.Core.Path.{_≡_};
 ghost use lib.ListN.{length};
 
 fn main() {
+    first();
+    second();
+    third();
+    fourth();
+}
+
+// From K1 to K5. A few in a function: the time to check one grows with the square of its calls.
+fn first() {
     show(
         b"K1",
         b"atom\t0\natom\t1\nleft\tsub\t0\t1\nleft\tis\t0\t0\nright\tis\t0\t1\nproof\nsub-l\t0\t0\t1\nid\t0\t1\n",
@@ -21,6 +29,10 @@ fn main() {
         b"K5",
         b"atom\t0\natom\t1\nleft\tsub\t0\t1\nleft\tis\t0\t0\nright\tis\t0\t1\nproof\nsub-l\t0\t0\t1\nid\t0\t1\nid\t0\t1\n",
     );
+}
+
+// From K6 to K10.
+fn second() {
     show(
         b"K6",
         b"atom\t0\nsome\t0\t0\nleft\tis\t0\t1\nright\tis\t0\t0\nproof\nsome-l\t0\t1\t0\n",
@@ -38,6 +50,10 @@ fn main() {
         b"atom\t0\nsome\t0\t0\nleft\tis\t0\t1\nright\tis\t0\t0\nmodel\nsize\t2\nhas\t0\t1\nedge\t0\t0\t1\n",
     );
     show(b"K10", b"atom\t0\natom\t0\n");
+}
+
+// From K11 to K14 size 33.
+fn third() {
     show(b"K11", b"not\t0\n");
     show(
         b"K12",
@@ -55,6 +71,10 @@ fn main() {
         b"K14 size 33",
         b"atom\t0\nsome\t0\t0\nleft\tis\t0\t1\nright\tis\t0\t0\nmodel\nsize\t33\nname\t0\t0\nhas\t0\t1\nedge\t0\t0\t1\n",
     );
+}
+
+// From K14 size 32 to K14 65536 bytes.
+fn fourth() {
     show(
         b"K14 size 32",
         b"atom\t0\nsome\t0\t0\nleft\tis\t0\t1\nright\tis\t0\t0\nmodel\nsize\t32\nname\t0\t0\nhas\t0\t1\nedge\t0\t0\t1\n",

@@ -14,7 +14,7 @@ use std::path::Path;
 use std::process::ExitCode;
 
 /// How many dossiers follow from each of the two seeds.
-const EACH: u64 = 200_000;
+const EACH: u64 = 100_000;
 /// The seed of the half that is the same in every run.
 const FIXED: u64 = 1;
 /// How often each verdict, and each step word in a derivation that is proved, must be met.
