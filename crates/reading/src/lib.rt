@@ -4,7 +4,7 @@
 use lines::Line;
 use lines::Next;
 use lines::WORDS;
-use lines::row;
+use lines::count;
 use lines::same;
 use lines::word;
 use numbers::Nums;
@@ -12,11 +12,17 @@ use numbers::holds;
 use numbers::numbers;
 use numbers::parts;
 ghost use mathlib.Core.Path.{_≡_};
-ghost use Prim.Native.Nat.{_+_, _≤_};
+ghost use Prim.Native.Nat.{_+_, _≤_, _<_};
 ghost use lib.ListN.{length, drop};
-ghost use Rattle.lines.specs.Text.{sideOf, behindOf, readAt};
+ghost use Rattle.lines.specs.Text.{sideOf, readAt};
 ghost use Rattle.lines.specs.Walk.{fieldOf};
-ghost use Rattle.reading.specs.Worded.{wordedAt};
+ghost use Rattle.reading.specs.Worded.{wordedAt, WordAt};
+
+// A field: the bytes of a text from a position on, up to another.
+struct Part {
+    from: usize,
+    to: usize,
+}
 
 // Where the field that begins at a position ends.
 fn field_end(text: &[u8], at: usize) -> usize
@@ -45,14 +51,21 @@ fn side(f: &[u8]) -> u8
     0
 }
 
-// How many fields stand before the word of a line of side s.
-fn behind_of(s: u8) -> u8
-    ensures { λ r. ⌜ r ≡ behindOf s ⌝ }
+// Where the word of the line at a position stands, whose first field ends at e and says the side s: it is that field, or the one behind it,
+// which is empty where the line ends.
+fn word_part(text: &[u8], at: usize, e: usize, s: u8) -> Part
+    requires { ⌜ (at < length (now text)) × (e ≡ at + length (fieldOf (drop at (now text)))) × (s ≡ sideOf (fieldOf (drop at (now text)))) ⌝ }
+    ensures { λ r. ⌜ WordAt (now (text .entry)) at s r ⌝ }
 {
     if s == 0 {
-        return 0;
+        return Part { from: at, to: e };
     }
-    1
+    if !holds(text, e, 9) {
+        return Part { from: e, to: e };
+    }
+    let from = e + 1;
+    let to = field_end(text, from);
+    Part { from: from, to: to }
 }
 
 // The line of side s whose word is the field from a to e.
@@ -60,12 +73,11 @@ fn worded(text: &[u8], a: usize, e: usize, s: u8, place: u8) -> Next
     requires { ⌜ (a ≤ e) × (e ≤ length (now text)) ⌝ }
     ensures { λ r. ⌜ r ≡ wordedAt (now (text .entry)) a e s place ⌝ }
 {
-    let w = word(&text[a..e], behind_of(s), place);
+    let w = word(&text[a..e], s, place);
     if w >= WORDS {
         return Next::Bad;
     }
-    let r = row(w);
-    let Nums::Are(n0, n1, n2, n3, next) = numbers(text, e, r.count) else {
+    let Nums::Are(n0, n1, n2, n3, next) = numbers(text, e, count(w)) else {
         return Next::Bad;
     };
     Next::Found(
@@ -90,13 +102,6 @@ pub fn read(text: &[u8], at: usize, place: u8) -> Next
     }
     let e = field_end(text, at);
     let s = side(&text[at..e]);
-    if s == 0 {
-        return worded(text, at, e, s, place);
-    }
-    if !holds(text, e, 9) {
-        return Next::Bad;
-    }
-    let a = e + 1;
-    let f = field_end(text, a);
-    worded(text, a, f, s, place)
+    let p = word_part(text, at, e, s);
+    worded(text, p.from, p.to, s, place)
 }
