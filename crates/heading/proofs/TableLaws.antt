@@ -3,12 +3,11 @@
 use Prim.Native.Nat.{ℕ, zero, suc, _+_, _≤_, _<_, _%_}
 use native.Mathlib.Omega.{arith}
 use native.Mathlib.Numerals.{add-one}
-use mathlib.Core.Bool.{Bool, true, false, _&&_}
-use mathlib.Core.List.{List, _∷_}
+use mathlib.Core.Bool.{Bool, true, false, _&&_, _||_}
+use mathlib.Core.List.{List, [], _∷_, _++_}
 use mathlib.Core.Path.{_≡_, refl, sym, ap, ap₂, _∙_}
 use lib.Dec.{eqb, ltb}
-use lib.ListN.{length, getD, drop, drop-of-length-le}
-use lib.Seq.{drop-cons}
+use lib.ListN.{length, getD}
 use Rattle.lines.specs.Text.{words, rowOf}
 use Rattle.lines.specs.declared.Line.{Line}
 use Rattle.lines.proofs.Told.{Told}
@@ -18,7 +17,7 @@ use Rattle.alc.specs.Ranges.{inRange}
 use Rattle.alc.specs.Table.{Entry, Table, entryOf, sameEntry, stands}
 use Rattle.alc.specs.Dossier.{concept, unread, sayings, saying}
 use Rattle.alc.specs.Shown.{kindAt, tableOf}
-use Rattle.alc.proofs.ShownLaws.{table-length, table-at}
+use Rattle.alc.proofs.ShownLaws.{lineAt}
 use Rattle.goals.proofs.RecordLaws.{kind-same}
 use Rattle.goals.proofs.Steps.{eqb-turn}
 use Rattle.heading.specs.Fields.{saidFields}
@@ -32,24 +31,19 @@ and-turn false b c = refl
 pub entry-same : (k x y j u v : ℕ) → k < 8 → j < 8 → (eqb k j && (eqb x u && eqb y v)) ≡ sameEntry (entryOf (kindAt k) x y) (entryOf (kindAt j) u v)
 entry-same k x y j u v h l = and-turn (eqb k j) (eqb x u) (eqb y v) ∙ ap (λ b. (b && eqb x u) && eqb y v) (eqb-turn k j ∙ kind-same j k l h)
 
--- one loop over the table: what is left at i
-module _ (ks xs ys : List ℕ) (n i : ℕ) (e : Entry) where
-  abbrev here : Entry
-  here = entryOf (kindAt (getD ks i 0)) (getD xs i 0) (getD ys i 0)
+-- a line more: an entry stands in the table if it is that line or stands above it
+or-turn : (a b c : Bool) → (a || (b || c)) ≡ (b || (a || c))
+or-turn true true c = refl
+or-turn true false c = refl
+or-turn false b c = refl
 
-  at-i : i < n → drop i (tableOf ks xs ys n) ≡ here ∷ drop (i + 1) (tableOf ks xs ys n)
-  at-i h =
-      drop-cons (tableOf ks xs ys n) i here (rw (table-length ks xs ys n) h)
-      ∙ ap₂ (λ (a : Entry) (k : ℕ). a ∷ drop k (tableOf ks xs ys n)) (table-at ks xs ys n i here h) (sym (add-one i))
+any-more : (p : Entry → Bool) (T : Table) (e : Entry) → any p (T ++ (e ∷ [])) ≡ (p e || any p T)
+any-more p [] e = refl
+any-more p (f ∷ T) e = ap (λ b. p f || b) (any-more p T e) ∙ or-turn (p f) (p e) (any p T)
 
-  pub stands-here : i < n → sameEntry e here ≡ true → any (sameEntry e) (drop i (tableOf ks xs ys n)) ≡ true
-  stands-here h t = rw (at-i h, t)
-
-  pub stands-next : i < n → sameEntry e here ≡ false → any (sameEntry e) (drop i (tableOf ks xs ys n)) ≡ any (sameEntry e) (drop (i + 1) (tableOf ks xs ys n))
-  stands-next h t = rw (at-i h, t)
-
-  pub stands-end : n ≤ i → any (sameEntry e) (drop i (tableOf ks xs ys n)) ≡ false
-  stands-end h = rw (drop-of-length-le (tableOf ks xs ys n) {i = i} (rw (table-length ks xs ys n) h))
+pub stands-more : (ks xs ys : List ℕ) (n : ℕ) (e : Entry) → stands (tableOf ks xs ys (n + 1)) e ≡ (sameEntry e (lineAt ks xs ys n) || stands (tableOf ks xs ys n) e)
+unfolding tableOf
+stands-more ks xs ys n e = rw (add-one n) (any-more (sameEntry e) (tableOf ks xs ys n) (lineAt ks xs ys n))
 
 -- a line of the text as a line of the table: what it does not say is 0
 pub said-entry : (s x y z w : ℕ) → w < 8 → (rowOf w .count ≤ 0 → x ≡ 0) → (rowOf w .count ≤ 1 → y ≡ 0) → getD (sayings s x y z) w unread ≡ concept (entryOf (kindAt w) x y)

@@ -30,14 +30,16 @@ fn repeated(kinds: &[u8; 256], firsts: &[u8; 256], seconds: &[u8; 256], n: usize
     requires { ⌜ (n ≤ 256) × (e .kind < 8) × ((i : ℕ) → i < n → getD (now kinds) i 0 < 8) ⌝ }
     ensures { λ r. ⌜ r ≡ standsIn (tableOf (now (kinds .entry)) (now (firsts .entry)) (now (seconds .entry)) n) (entryOf (kindAt (e .kind)) (e .x) (e .y)) ⌝ }
 {
+    // No early end: so the compiler compares sixteen lines at a time.
+    let mut times: u16 = 0;
     let mut i: usize = 0;
     while i < n {
         if matches(kinds[i], firsts[i], seconds[i], e) {
-            return true;
+            times += 1;
         }
         i += 1;
     }
-    false
+    times > 0
 }
 
 // Whether the entry is of this kind and has these numbers.
