@@ -1,41 +1,9 @@
--- `lines::compound_word` meets its contract: it compares with one word of the table after the other, in their order, and `section_word` with those behind them. Assumes nothing.
-use Prim.Native.Nat.{ℕ}
-use mathlib.Core.List.{List}
+-- `lines::compound_word` meets its contract: it compares with each of these words, and a field is one word at most; `section_word` compares with those behind them. Assumes nothing.
 use mathlib.Core.Path.{refl, sym, _∙_}
-use denote.Ref.{now}
 use Rattle.lines.specs.Text.{words, rowOf}
-use Rattle.lines.proofs.Words.{Missed, sought-here, sought-past, unsided}
+use Rattle.lines.proofs.Words.{sought-is, sought-past, unsided}
 use Rattle.lines.proofs.compound_word.Statement.{statement}
 use Rattle.lines.proofs.compound_word.Tie as tie
-
--- the field, and that it is none of the first words
-abbrev field1 : tie.Else1 → List ℕ
-field1 c = now (c .before .before .before .before .args .f)
-
-missed1 : (c : tie.Else1) → Missed (field1 c) 4 1
-unfolding words rowOf
-missed1 c = (tt, sym (c .before .same .ensures) ∙ c .if1 .left)
-
-abbrev field2 : tie.Else2 → List ℕ
-field2 c = field1 (c .before .before .before)
-
-missed2 : (c : tie.Else2) → Missed (field2 c) 4 2
-unfolding words rowOf
-missed2 c = (missed1 (c .before .before .before), sym (c .before .same2 .ensures) ∙ c .if2 .left)
-
-abbrev field3 : tie.Else3 → List ℕ
-field3 c = field2 (c .before .before .before)
-
-missed3 : (c : tie.Else3) → Missed (field3 c) 4 3
-unfolding words rowOf
-missed3 c = (missed2 (c .before .before .before), sym (c .before .same3 .ensures) ∙ c .if3 .left)
-
-abbrev field4 : tie.Else4 → List ℕ
-field4 c = field3 (c .before .before .before)
-
-missed4 : (c : tie.Else4) → Missed (field4 c) 4 4
-unfolding words rowOf
-missed4 c = (missed3 (c .before .before .before), sym (c .before .same4 .ensures) ∙ c .if4 .left)
 
 pub compound-word-spec : {M : Type 1} → statement M
 unfolding words rowOf
@@ -44,15 +12,20 @@ compound-word-spec =
     (tie.spec
     (λ c. refl)
     (λ c κs. tt)
-    (λ c. sym (sought-here 0 _ 4 0 8 tt refl (sym (c .before .same .ensures) ∙ c .if1 .taken)))
+    (λ c. sym (sought-is 0 _ 4 9 0 refl refl refl (sym (c .before .same .ensures) ∙ c .if1 .taken)))
     (λ c. refl)
     (λ c κs. tt)
-    (λ c. sym (sought-here 0 _ 4 1 7 (missed1 (c .before .before .before)) refl (sym (c .before .same2 .ensures) ∙ c .if2 .taken)))
+    (λ c. sym (sought-is 0 _ 4 9 1 refl refl refl (sym (c .before .same2 .ensures) ∙ c .if2 .taken)))
     (λ c. refl)
     (λ c κs. tt)
-    (λ c. sym (sought-here 0 _ 4 2 6 (missed2 (c .before .before .before)) refl (sym (c .before .same3 .ensures) ∙ c .if3 .taken)))
+    (λ c. sym (sought-is 0 _ 4 9 2 refl refl refl (sym (c .before .same3 .ensures) ∙ c .if3 .taken)))
     (λ c. refl)
     (λ c κs. tt)
-    (λ c. sym (sought-here 0 _ 4 3 5 (missed3 (c .before .before .before)) refl (sym (c .before .same4 .ensures) ∙ c .if4 .taken)))
+    (λ c. sym (sought-is 0 _ 4 9 3 refl refl refl (sym (c .before .same4 .ensures) ∙ c .if4 .taken)))
     (λ c κs. tt)
-    (λ c. c .section-word .ensures ∙ sym (sought-past 0 _ 4 4 5 (missed4 (c .before)) ∙ unsided _)))
+    (λ c.
+    let e4 = c .before in
+    let e3 = e4 .before .before .before in
+    let e2 = e3 .before .before .before in
+    let e1 = e2 .before .before .before in
+    c .section-word .ensures ∙ sym (sought-past 0 _ 4 4 5 ((((tt, sym (e1 .before .same .ensures) ∙ e1 .if1 .left), sym (e2 .before .same2 .ensures) ∙ e2 .if2 .left), sym (e3 .before .same3 .ensures) ∙ e3 .if3 .left), sym (e4 .before .same4 .ensures) ∙ e4 .if4 .left) ∙ unsided _)))
