@@ -1,41 +1,9 @@
--- `lines::table_word` meets its contract: it compares with one word of the table after the other, in their order, and `compound_word` with those behind them. Assumes nothing.
-use Prim.Native.Nat.{ℕ}
-use mathlib.Core.List.{List}
+-- `lines::table_word` meets its contract: it compares with each of these words, and a field is one word at most; `section_word` compares with those behind them. Assumes nothing.
 use mathlib.Core.Path.{refl, sym, _∙_}
-use denote.Ref.{now}
 use Rattle.lines.specs.Text.{words, rowOf}
-use Rattle.lines.proofs.Words.{Missed, sought-here, sought-past}
+use Rattle.lines.proofs.Words.{sought-is, sought-past, unsided}
 use Rattle.lines.proofs.table_word.Statement.{statement}
 use Rattle.lines.proofs.table_word.Tie as tie
-
--- the field, and that it is none of the first words
-abbrev field1 : tie.Else1 → List ℕ
-field1 c = now (c .before .before .before .before .args .f)
-
-missed1 : (c : tie.Else1) → Missed (field1 c) 0 1
-unfolding words rowOf
-missed1 c = (tt, sym (c .before .same .ensures) ∙ c .if1 .left)
-
-abbrev field2 : tie.Else2 → List ℕ
-field2 c = field1 (c .before .before .before)
-
-missed2 : (c : tie.Else2) → Missed (field2 c) 0 2
-unfolding words rowOf
-missed2 c = (missed1 (c .before .before .before), sym (c .before .same2 .ensures) ∙ c .if2 .left)
-
-abbrev field3 : tie.Else3 → List ℕ
-field3 c = field2 (c .before .before .before)
-
-missed3 : (c : tie.Else3) → Missed (field3 c) 0 3
-unfolding words rowOf
-missed3 c = (missed2 (c .before .before .before), sym (c .before .same3 .ensures) ∙ c .if3 .left)
-
-abbrev field4 : tie.Else4 → List ℕ
-field4 c = field3 (c .before .before .before)
-
-missed4 : (c : tie.Else4) → Missed (field4 c) 0 4
-unfolding words rowOf
-missed4 c = (missed3 (c .before .before .before), sym (c .before .same4 .ensures) ∙ c .if4 .left)
 
 pub table-word-spec : {M : Type 1} → statement M
 unfolding words rowOf
@@ -44,15 +12,36 @@ table-word-spec =
     (tie.spec
     (λ c. refl)
     (λ c κs. tt)
-    (λ c. sym (sought-here 0 _ 0 0 12 tt refl (sym (c .before .same .ensures) ∙ c .if1 .taken)))
+    (λ c. sym (sought-is 0 _ 0 13 0 refl refl refl (sym (c .before .same .ensures) ∙ c .if1 .taken)))
     (λ c. refl)
     (λ c κs. tt)
-    (λ c. sym (sought-here 0 _ 0 1 11 (missed1 (c .before .before .before)) refl (sym (c .before .same2 .ensures) ∙ c .if2 .taken)))
+    (λ c. sym (sought-is 0 _ 0 13 1 refl refl refl (sym (c .before .same2 .ensures) ∙ c .if2 .taken)))
     (λ c. refl)
     (λ c κs. tt)
-    (λ c. sym (sought-here 0 _ 0 2 10 (missed2 (c .before .before .before)) refl (sym (c .before .same3 .ensures) ∙ c .if3 .taken)))
+    (λ c. sym (sought-is 0 _ 0 13 2 refl refl refl (sym (c .before .same3 .ensures) ∙ c .if3 .taken)))
     (λ c. refl)
     (λ c κs. tt)
-    (λ c. sym (sought-here 0 _ 0 3 9 (missed3 (c .before .before .before)) refl (sym (c .before .same4 .ensures) ∙ c .if4 .taken)))
+    (λ c. sym (sought-is 0 _ 0 13 3 refl refl refl (sym (c .before .same4 .ensures) ∙ c .if4 .taken)))
+    (λ c. refl)
     (λ c κs. tt)
-    (λ c. c .compound-word .ensures ∙ sym (sought-past 0 _ 0 4 9 (missed4 (c .before)))))
+    (λ c. sym (sought-is 0 _ 0 13 4 refl refl refl (sym (c .before .same5 .ensures) ∙ c .if5 .taken)))
+    (λ c. refl)
+    (λ c κs. tt)
+    (λ c. sym (sought-is 0 _ 0 13 5 refl refl refl (sym (c .before .same6 .ensures) ∙ c .if6 .taken)))
+    (λ c. refl)
+    (λ c κs. tt)
+    (λ c. sym (sought-is 0 _ 0 13 6 refl refl refl (sym (c .before .same7 .ensures) ∙ c .if7 .taken)))
+    (λ c. refl)
+    (λ c κs. tt)
+    (λ c. sym (sought-is 0 _ 0 13 7 refl refl refl (sym (c .before .same8 .ensures) ∙ c .if8 .taken)))
+    (λ c κs. tt)
+    (λ c.
+    let e8 = c .before in
+    let e7 = e8 .before .before .before in
+    let e6 = e7 .before .before .before in
+    let e5 = e6 .before .before .before in
+    let e4 = e5 .before .before .before in
+    let e3 = e4 .before .before .before in
+    let e2 = e3 .before .before .before in
+    let e1 = e2 .before .before .before in
+    c .section-word .ensures ∙ sym (sought-past 0 _ 0 8 5 ((((((((tt, sym (e1 .before .same .ensures) ∙ e1 .if1 .left), sym (e2 .before .same2 .ensures) ∙ e2 .if2 .left), sym (e3 .before .same3 .ensures) ∙ e3 .if3 .left), sym (e4 .before .same4 .ensures) ∙ e4 .if4 .left), sym (e5 .before .same5 .ensures) ∙ e5 .if5 .left), sym (e6 .before .same6 .ensures) ∙ e6 .if6 .left), sym (e7 .before .same7 .ensures) ∙ e7 .if7 .left), sym (e8 .before .same8 .ensures) ∙ e8 .if8 .left) ∙ unsided _)))
