@@ -34,7 +34,7 @@ fn base_of(a: Act) -> usize
 fn count_of(a: Act) -> usize
     ensures { λ r. ⌜ r ≡ a .count ⌝ }
 {
-    a.count
+    a.count as usize
 }
 
 // Whether lines are still read.
