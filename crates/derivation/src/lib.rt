@@ -34,7 +34,7 @@ fn base_of(a: Act) -> usize
 fn count_of(a: Act) -> usize
     ensures { λ r. ⌜ r ≡ a .count ⌝ }
 {
-    a.count
+    a.count as usize
 }
 
 // Whether lines are still read.
@@ -76,6 +76,10 @@ fn step(
 {
     let a = steps::act_at(text, kinds, firsts, seconds, entries, s);
     let k = kind_of(a);
+    // most lines ask nothing, and their state is returned where it is made, not copied
+    if k == 0 {
+        return steps::after(s, a);
+    }
     let next = steps::after(s, a);
     if k == 1 {
         room::store(room, base_of(a), steps::aside(next, a));

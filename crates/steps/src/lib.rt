@@ -90,7 +90,7 @@ pub struct State {
     // the current goal, where one is open
     pub goal: Goal,
     // the claims of each goal that waits, the one put aside first at 0
-    pub counts: [usize; 16],
+    pub counts: [u8; 16],
     // how many goals are open: the current one and those that wait
     pub open: usize,
     pub steps: usize,
@@ -107,7 +107,7 @@ pub struct Act {
     // becomes the current one (2)
     pub kind: u8,
     pub base: usize,
-    pub count: usize,
+    pub count: u8,
     pub turn: Turn,
     pub open: usize,
     pub steps: usize,
@@ -175,7 +175,7 @@ fn passed(
     at: usize,
     kind: u8,
     base: usize,
-    count: usize,
+    count: u8,
     open: usize,
 ) -> Act
     requires { ⌜ s .steps < 1024 ⌝ }
@@ -201,7 +201,8 @@ fn parted(s: State, t: Turn, line: usize, at: usize) -> Act
     ensures { λ r. ⌜ r ≡ partedOf s t line at ⌝ }
 {
     let waiting = s.open - 1;
-    passed(s, t, line, at, 1, waiting * 64, t.kept + 1, s.open + 1)
+    let count = (t.kept + 1) as u8;
+    passed(s, t, line, at, 1, waiting * 64, count, s.open + 1)
 }
 
 // The goal closes: the one put aside last becomes current, where one waits.
@@ -214,7 +215,8 @@ fn closed(s: State, t: Turn, line: usize, at: usize) -> Act
         return passed(s, t, line, at, 0, 0, 0, waiting);
     }
     let last = waiting - 1;
-    passed(s, t, line, at, 2, last * 64, s.counts[last], waiting)
+    let counts = s.counts;
+    passed(s, t, line, at, 2, last * 64, counts[last], waiting)
 }
 
 // The state behind an act at the state s: the turn's first premise is the current goal, and where a second waits its place has its count.

@@ -164,27 +164,33 @@ pub fn premise(g: Goal, t: Turn) -> Goal
     ensures { λ r. ⌜ (records r ≡ premiseAt 0 t (records g)) × (r .count ≤ 64) × (r .count ≡ t .kept + length (getD (added (t .leaves) (t .first) (t .second)) 0 [])) ⌝ }
 {
     let n = t.kept;
-    let mut out = g;
+    let mut claims = g.claims;
     let mut i = t.at;
     while i < n {
-        let c = out.claims[i + 1];
-        out.claims[i] = c;
+        let c = claims[i + 1];
+        claims[i] = c;
         i += 1;
     }
     if t.leaves == 0 {
-        out.count = n;
-        return out;
+        return Goal {
+            claims: claims,
+            count: n,
+        };
     }
     let first = t.first;
-    out.claims[n] = first;
+    claims[n] = first;
     if t.leaves == 2 {
         let second = t.second;
-        out.claims[n + 1] = second;
-        out.count = n + 2;
-        return out;
+        claims[n + 1] = second;
+        return Goal {
+            claims: claims,
+            count: n + 2,
+        };
     }
-    out.count = n + 1;
-    out
+    Goal {
+        claims: claims,
+        count: n + 1,
+    }
 }
 
 // The second of two premises, from the first: they differ in the last claim alone.

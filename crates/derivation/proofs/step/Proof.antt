@@ -59,11 +59,20 @@ module _ (text ks xs ys : List ℕ) (entries : ℕ) (l : List Claim) (s : State)
   resting : (a .kind ≡ 1 → ⊥) → (a .kind ≡ 2 → ⊥) → Stepped text ks xs ys entries l s l n
   resting not1 not2 = rests text ks xs ys entries l s (pre .0) (pre .1) a n f there not1 not2
 
+  -- the act that asks nothing of the room is neither of the two that do
+  asking-none : a .kind ≡ 0 → Stepped text ks xs ys entries l s l n
+  asking-none is0 = resting (λ (e : a .kind ≡ 1). omega arith) (λ (e : a .kind ≡ 2). omega arith)
+
 module _ (w : World) (store : Knows (fun RC.store) w code.env) (fetch : Knows (fun RC.fetch) w code.env) (act-at : Knows F.act-at w code.env) (kind-of : Knows F.kind-of w code.env) (after : Knows F.after w code.env) (base-of : Knows F.base-of w code.env) (aside : Knows F.aside w code.env) (count-of : Knows F.count-of w code.env) (took : Knows F.took w code.env) where
   unfoldable body : Body! C.step 1 code.function w code.env
   body κs qs bs =
       calls F.act-at act-at 8 (1 ∷ 2 ∷ 3 ∷ 4 ∷ []) (record { pos = 2; ty = τ 1; ref = λ x. x }, (record { pos = 3; ty = τ 2; ref = λ x. x }, (record { pos = 4; ty = τ 3; ref = λ x. x }, (record { pos = 5; ty = τ 4; ref = λ x. x }, (vAt 6 (λ x. x), (record { pos = 7; st = []; d = 0; at = λ x. x }, tt)))))) (search rules, search rules, refl, (search rules, search rules, refl, (search rules, search rules, refl, (search rules, search rules, refl, (search rules, (search rules, tt)))))) (search rules) ▸
       calls F.kind-of kind-of 9 [] (record { pos = 8; st = []; d = 0; at = λ x. x }, tt) (search rules) (search rules) ▸
+      calcs 12 sBool eq (oAt 9 i8 (valS byte)) (oInt w8 0) (search rules) ▸
+      joins (conds 12 (λ x. x) (search rules) (
+      calls F.after after 0 [] (record { pos = 7; st = []; d = 0; at = λ x. x }, (record { pos = 8; st = []; d = 0; at = λ x. x }, tt)) (search rules, (search rules, tt)) (search rules) ▸
+      clears (6 ∷ 7 ∷ 8 ∷ 9 ∷ []) (used w num, (C.state-gone w, (C.act-gone w, (used w byte, tt)))) (clears (12 ∷ []) (used w sBool, tt) (
+      returns tt))) (skips tt)) (
       calls F.after after 10 [] (record { pos = 7; st = []; d = 0; at = λ x. x }, (record { pos = 8; st = []; d = 0; at = λ x. x }, tt)) (search rules, (search rules, tt)) (search rules) ▸
       calcs 12 sBool eq (oAt 9 i8 (valS byte)) (oInt w8 1) (search rules) ▸
       joins (conds 12 (λ x. x) (search rules) (
@@ -88,7 +97,7 @@ module _ (w : World) (store : Knows (fun RC.store) w code.env) (fetch : Knows (f
       returns tt)))))) (skips tt)) (
       copies state 10 0 (λ x. x) (λ x. x) (search rules) ▸
       clears (6 ∷ 7 ∷ 8 ∷ 9 ∷ []) (used w num, (C.state-gone w, (C.act-gone w, (used w byte, tt)))) (clears (10 ∷ 12 ∷ []) (C.state-gone w, (used w sBool, tt)) (
-      returns tt))))
+      returns tt)))))
 
   met : Asks! C.step 1 code.function w code.env body
   unfolding body
@@ -97,50 +106,59 @@ module _ (w : World) (store : Knows (fun RC.store) w code.env) (fetch : Knows (f
     λ a. (
       λ _. tt,
       λ k. (
-        λ _. a .5 .makes,
-        λ next. (
-          tt,
-          (
-            λ test. let is1 : a .1 .kind ≡ 1 = sym (k .5) ∙ eqb-true (k .1) 1 test in
-                λ γ. (
-                  refl,
-                  (
-                    λ _. tt,
-                    λ base. (
-                      λ _. second (text .now) (kinds .now) (firsts .now) (seconds .now) entries (room .now) s pre (a .1) (a .5) (next .1) (next .5) is1,
-                      λ g. (
-                        λ _. place (text .now) (kinds .now) (firsts .now) (seconds .now) entries (room .now) s pre (a .1) (a .5) (next .1) (next .5) is1 (base .1) (g .1) (base .5) (g .5),
-                        λ st. (
-                          refl,
-                          λ same. ((same-len room (st .2 .0) same, (refl, (refl, (refl, (refl, (tt, (tt, tt))))))), storing (text .now) (kinds .now) (firsts .now) (seconds .now) entries (room .now) s pre (a .1) (a .5) (next .1) (next .5) is1 (base .1) (g .1) (st .2 .0) (base .5) (g .5) (st .5)),
-                        ),
-                      ),
-                    ),
-                  ),
-                ),
-            λ test. let not1 : a .1 .kind ≡ 1 → ⊥ = λ (e : a .1 .kind ≡ 1). eqb-false (k .1) 1 test (k .5 ∙ e) in (
+        tt,
+        (
+          λ test. let is0 : a .1 .kind ≡ 0 = sym (k .5) ∙ eqb-true (k .1) 0 test in (
+            λ _. a .5 .makes,
+            λ next. ((refl, (refl, (refl, (refl, (refl, (tt, (tt, tt))))))), asking-none (text .now) (kinds .now) (firsts .now) (seconds .now) entries (room .now) s pre (a .1) (a .5) (next .1) (next .5) is0),
+          ),
+          λ _. (
+            λ _. a .5 .makes,
+            λ next. (
               tt,
               (
-                λ test′. let is2 : a .1 .kind ≡ 2 = sym (k .5) ∙ eqb-true (k .1) 2 test′ in
+                λ test. let is1 : a .1 .kind ≡ 1 = sym (k .5) ∙ eqb-true (k .1) 1 test in
                     λ γ. (
                       refl,
                       (
                         λ _. tt,
                         λ base. (
-                          λ _. tt,
-                          λ n. (
-                            λ _. part (text .now) (kinds .now) (firsts .now) (seconds .now) entries (room .now) s pre (a .1) (a .5) (next .1) (next .5) is2 (base .1) (n .1) (base .5) (n .5),
-                            λ f. (
-                              λ _. tt,
-                              λ r. ((refl, (refl, (refl, (refl, (refl, (tt, (tt, tt))))))), fetching (text .now) (kinds .now) (firsts .now) (seconds .now) entries (room .now) s pre (a .1) (a .5) (next .1) (next .5) is2 (base .1) (n .1) (f .1) (r .1) (base .5) (n .5) (f .5) (r .5)),
+                          λ _. second (text .now) (kinds .now) (firsts .now) (seconds .now) entries (room .now) s pre (a .1) (a .5) (next .1) (next .5) is1,
+                          λ g. (
+                            λ _. place (text .now) (kinds .now) (firsts .now) (seconds .now) entries (room .now) s pre (a .1) (a .5) (next .1) (next .5) is1 (base .1) (g .1) (base .5) (g .5),
+                            λ st. (
+                              refl,
+                              λ same. ((same-len room (st .2 .0) same, (refl, (refl, (refl, (refl, (tt, (tt, tt))))))), storing (text .now) (kinds .now) (firsts .now) (seconds .now) entries (room .now) s pre (a .1) (a .5) (next .1) (next .5) is1 (base .1) (g .1) (st .2 .0) (base .5) (g .5) (st .5)),
                             ),
                           ),
                         ),
                       ),
                     ),
-                λ test′.
-                    let not2 : a .1 .kind ≡ 2 → ⊥ = λ (e : a .1 .kind ≡ 2). eqb-false (k .1) 2 test′ (k .5 ∙ e) in
-                    ((refl, (refl, (refl, (refl, (refl, (tt, (tt, tt))))))), resting (text .now) (kinds .now) (firsts .now) (seconds .now) entries (room .now) s pre (a .1) (a .5) (next .1) (next .5) not1 not2),
+                λ test. let not1 : a .1 .kind ≡ 1 → ⊥ = λ (e : a .1 .kind ≡ 1). eqb-false (k .1) 1 test (k .5 ∙ e) in (
+                  tt,
+                  (
+                    λ test′. let is2 : a .1 .kind ≡ 2 = sym (k .5) ∙ eqb-true (k .1) 2 test′ in
+                        λ γ. (
+                          refl,
+                          (
+                            λ _. tt,
+                            λ base. (
+                              λ _. tt,
+                              λ n. (
+                                λ _. part (text .now) (kinds .now) (firsts .now) (seconds .now) entries (room .now) s pre (a .1) (a .5) (next .1) (next .5) is2 (base .1) (n .1) (base .5) (n .5),
+                                λ f. (
+                                  λ _. tt,
+                                  λ r. ((refl, (refl, (refl, (refl, (refl, (tt, (tt, tt))))))), fetching (text .now) (kinds .now) (firsts .now) (seconds .now) entries (room .now) s pre (a .1) (a .5) (next .1) (next .5) is2 (base .1) (n .1) (f .1) (r .1) (base .5) (n .5) (f .5) (r .5)),
+                                ),
+                              ),
+                            ),
+                          ),
+                        ),
+                    λ test′.
+                        let not2 : a .1 .kind ≡ 2 → ⊥ = λ (e : a .1 .kind ≡ 2). eqb-false (k .1) 2 test′ (k .5 ∙ e) in
+                        ((refl, (refl, (refl, (refl, (refl, (tt, (tt, tt))))))), resting (text .now) (kinds .now) (firsts .now) (seconds .now) entries (room .now) s pre (a .1) (a .5) (next .1) (next .5) not1 not2),
+                  ),
+                ),
               ),
             ),
           ),

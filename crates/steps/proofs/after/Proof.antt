@@ -44,6 +44,5 @@ after-spec =
     (tie.spec
     (λ c. let h = some (c .before) in search needs)
     (λ c. let h = some (c .before) in search needs)
-    (λ c. let h = some (c .before) in search needs)
     (λ c κs. search needs)
     returns)

@@ -16,13 +16,13 @@ abbrev by : State → Turn → ℕ → ℕ → Bool → Act
 by s t line at b = cond b (lastOf s t line at) (takenOf s t line at)
 
 returns : tie.Need-returns
-returns c = let a = c .before .before .args in c .passed .ensures ∙ sym (ap (by (a .t1) (a .t) (a .line) (a .at)) (eq-eqb _ 0 (c .before .if1 .taken)))
+returns c = let a = c .before .before .before .args in c .passed .ensures ∙ sym (ap (by (a .s) (a .t) (a .line) (a .at)) (eq-eqb _ 0 (c .before .if1 .taken)))
 
 returns-2 : tie.Need-returns-2
 returns-2 c =
     let e = c .before .before in
-    let a = e .before .args in
-    c .passed2 .ensures ∙ sym (ap (by (a .t1) (a .t) (a .line) (a .at)) (ne-eqb _ 0 (e .if1 .left)))
+    let a = e .before .before .args in
+    c .passed2 .ensures ∙ sym (ap (by (a .s) (a .t) (a .line) (a .at)) (ne-eqb _ 0 (e .if1 .left)))
 
 pub closed-spec : {M : Type 1} → statement M
 closed-spec =
@@ -31,7 +31,6 @@ closed-spec =
     (λ c. search needs)
     (λ c κs. search needs)
     returns
-    (λ c. search needs)
     (λ c. search needs)
     (λ c. search needs)
     (λ c. search needs)

@@ -11,13 +11,13 @@ use Rattle.turns.proofs.premise.Statement.{statement}
 use Rattle.turns.proofs.premise.Tie as tie
 
 abbrev Inv-loop : tie.InvT-loop
-Inv-loop t n out₀ i₀ out i = (i ≤ n) × Moving blank (out₀ .claims) (t .at) i (out .claims)
+Inv-loop t n claims₀ i₀ claims i = (i ≤ n) × Moving blank claims₀ (t .at) i claims
 
 abbrev μ-loop : tie.MeasureT-loop
-μ-loop t n out₀ i₀ out i = n - i
+μ-loop t n claims₀ i₀ claims i = n - i
 
 loop-holds : tie.Need-loop-holds Inv-loop μ-loop
-loop-holds c = let m = c .pre .1 in (omega (arith, m .kept, m .place), moving-none blank _ _)
+loop-holds c = let m = c .before .pre .1 in (omega (arith, m .kept, m .place), moving-none blank _ _)
 
 -- the records of the goal are 64
 long : (s : tie.Start Inv-loop μ-loop) → length (s .args .g .claims) ≡ 64
@@ -27,40 +27,40 @@ long s = all-length (s .args .g) _ (s .good .0) (s .pre .0)
 within : (c : tie.In-loop Inv-loop μ-loop) → c .before .loop .i + 1 < 64
 within c =
     let l = c .before in
-    let s = l .before in
+    let s = l .before .before in
     moves-within (s .args .t) (s .args .g) (long s) (s .pre .0) (s .pre .1) (l .loop .i) (l .loop .inv .1 .begun) (c .loop-test .taken)
 
 loop-again : tie.Need-loop-again Inv-loop μ-loop
 loop-again c =
     let l = c .before .before in
-    let s = l .before in
+    let s = l .before .before in
     (omega (arith, c .before .loop-test .taken), moving-more blank _ _ _ _ (l .loop .inv .1) (omega (arith, long s, within (c .before))))
 
 returns : tie.Need-returns Inv-loop μ-loop
 returns c =
     let a = c .before .before in
     let l = a .before in
-    let s = l .before in
+    let s = l .before .before in
     let m = s .pre .1 in (
-      premise-none (s .args .t) (s .args .g) (long s) (s .pre .0) m (l .loop .i) (l .loop .out .claims) (l .loop .inv .1) (a .loop-test .left) (c .if1 .taken),
+      premise-none (s .args .t) (s .args .g) (long s) (s .pre .0) m (l .loop .i) (l .loop .claims) (l .loop .inv .1) (a .loop-test .left) (c .if1 .taken),
       omega (arith, m .kept, m .place, s .pre .0),
       omega (arith, comes-none (s .args .t .first) (s .args .t .second) (s .args .t .leaves) (c .if1 .taken)),
     )
 
 -- something comes, so there is room for one claim
-some : (c : tie.Else1 Inv-loop μ-loop) → c .before .before .before .before .args .t .kept < 64
-some c = let s = c .before .before .before .before in room-some (s .args .t) (s .args .g) (long s) (s .pre .0) (s .pre .1) (c .if1 .left)
+some : (c : tie.Else1 Inv-loop μ-loop) → c .before .before .before .before .before .args .t .kept < 64
+some c = let s = c .before .before .before .before .before in room-some (s .args .t) (s .args .g) (long s) (s .pre .0) (s .pre .1) (c .if1 .left)
 
 -- two come, so there is room for two
-both : (c : tie.Then2 Inv-loop μ-loop) → c .before .before .before .before .before .before .before .args .t .kept < 63
-both c = let s = c .before .before .before .before .before .before .before in room-two (s .args .t) (s .args .g) (long s) (s .pre .0) (s .pre .1) (c .if2 .taken)
+both : (c : tie.Then2 Inv-loop μ-loop) → c .before .before .before .before .before .before .before .before .args .t .kept < 63
+both c = let s = c .before .before .before .before .before .before .before .before in room-two (s .args .t) (s .args .g) (long s) (s .pre .0) (s .pre .1) (c .if2 .taken)
 
 returns-2 : tie.Need-returns-2 Inv-loop μ-loop
 returns-2 c =
     let a = c .before .before .before .before .before .before in
     let l = a .before in
-    let s = l .before in (
-      premise-two (s .args .t) (s .args .g) (long s) (s .pre .0) (s .pre .1) (l .loop .i) (l .loop .out .claims) (l .loop .inv .1) (a .loop-test .left) (c .before .if2 .taken),
+    let s = l .before .before in (
+      premise-two (s .args .t) (s .args .g) (long s) (s .pre .0) (s .pre .1) (l .loop .i) (l .loop .claims) (l .loop .inv .1) (a .loop-test .left) (c .before .if2 .taken),
       omega (arith, both (c .before)),
       omega (arith, comes-both (s .args .t .first) (s .args .t .second) (s .args .t .leaves) (c .before .if2 .taken)),
     )
@@ -70,8 +70,8 @@ returns-3 c =
     let e = c .before .before .before in
     let a = e .before .before in
     let l = a .before in
-    let s = l .before in (
-      premise-one (s .args .t) (s .args .g) (long s) (s .pre .0) (s .pre .1) (l .loop .i) (l .loop .out .claims) (l .loop .inv .1) (a .loop-test .left) (e .if1 .left) (c .if2 .left),
+    let s = l .before .before in (
+      premise-one (s .args .t) (s .args .g) (long s) (s .pre .0) (s .pre .1) (l .loop .i) (l .loop .claims) (l .loop .inv .1) (a .loop-test .left) (e .if1 .left) (c .if2 .left),
       omega (arith, some e),
       omega (arith, comes-one (s .args .t .first) (s .args .t .second) (s .args .t .leaves) (e .if1 .left) (c .if2 .left)),
     )
