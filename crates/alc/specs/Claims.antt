@@ -16,6 +16,7 @@ pub data Claim : Type 0 where
   link : ℕ → ℕ → ℕ → Claim
   deriving Discrete as Claim-discrete
 
+-- a claim on the left or on the right of the sequent
 pub data Sided : Type 0 where
   left right : Claim → Sided
   deriving Discrete as Sided-discrete
@@ -24,6 +25,7 @@ pub data Sided : Type 0 where
 abbrev pub Goal : Type 0
 Goal = List Sided
 
+-- the claim without its side
 abbrev pub claim : Sided → Claim
 claim (left c) = c
 claim (right c) = c

@@ -70,6 +70,7 @@ sayings s x y z =
     ∷ fact (edge x y z)
     ∷ []
 
+-- what a line says, by the number of its word
 abbrev pub saying : Line → Said
 saying l = getD (sayings (l .side) (l .n0) (l .n1) (l .n2)) (l .word) unread
 

@@ -14,15 +14,18 @@ abbrev pub text : List String → List ℕ
 text [] = []
 text (l ∷ ls) = map (λ b. cond (eqb b 32) 9 b) (bytes l) ++ 10 ∷ text ls
 
+-- a dossier by its lines, and the verdict that it must get
 pub record Known : Type 0 where
   pub lines : List String
   pub word : String
   pub number : ℕ
   pub line : ℕ
 
+-- these lines, with this verdict
 abbrev gives : List String → String → ℕ → ℕ → Known
 gives ls w k n = record { lines = ls; word = w; number = k; line = n }
 
+-- K1 of document 01
 abbrev K1 : List String
 K1 = "atom 0" ∷ "atom 1" ∷ "left sub 0 1" ∷ "left is 0 0" ∷ "right is 0 1" ∷ "proof" ∷ "sub-l 0 0 1" ∷ "id 0 1" ∷ []
 
@@ -38,6 +41,7 @@ both = "atom 0" ∷ "atom 1" ∷ "and 0 1" ∷ "left is 0 0" ∷ "left is 0 1" �
 abbrev lonely : List String
 lonely = "atom 0" ∷ "all 0 0" ∷ "left is 0 1" ∷ "right is 0 0" ∷ "model" ∷ "size 1" ∷ "name 0 0" ∷ []
 
+-- the dossiers whose verdict is known
 unfoldable pub known : List Known
 known =
     -- K1 to K10, K12, K13 and K16 of document 01

@@ -26,6 +26,7 @@ module _ {A : Type 0} where
   firstAt p [] = 0
   firstAt p (x ∷ xs) = cond (p x) 0 (suc (firstAt p xs))
 
+  -- there is no element
   abbrev pub isEmpty : List A → Bool
   isEmpty [] = true
   isEmpty (x ∷ xs) = false

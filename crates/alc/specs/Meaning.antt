@@ -3,6 +3,7 @@
 use Prim.Native.Nat.{ℕ, zero, suc, _<_}
 use mathlib.Core.Bool.{Bool, true, false, not, _&&_, _||_}
 
+-- a concept: `top`, `bot`, an atom, and what `not`, `and`, `or`, `some r` and `all r` make of concepts
 pub data Tree : Type 0 where
   top bot : Tree
   atom : ℕ → Tree

@@ -67,6 +67,7 @@ unfinishedIn steps S = not (isEmpty (S .goals))
 unfinishedIn start S = true
 unfinishedIn facts S = not (allPlaced (S .facts) (S .claims))
 
+-- the same, by the part that the state is in
 abbrev pub unfinished : State → Bool
 unfinished S = unfinishedIn (S .part) S
 

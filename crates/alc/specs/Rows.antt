@@ -4,10 +4,12 @@ use Prim.Native.Nat.{ℕ}
 use mathlib.Core.Bool.{Bool, cond}
 use mathlib.Core.List.{List, [], _∷_}
 
+-- the number that the row refuses with, and whether the line passes it
 pub record Row : Type 0 where
   pub number : ℕ
   pub passed : Bool
 
+-- the row of this number, with this test
 abbrev pub row : ℕ → Bool → Row
 row n b = record { number = n; passed = b }
 

@@ -49,28 +49,35 @@ pub record Plan : Type 0 where
 abbrev plans : Bool → List Sided → Bool → List ℕ → List (List Sided) → Plan
 plans asks needs drops news premises = record { asks = asks; needs = needs; drops = drops; news = news; premises = premises }
 
+-- all claims stay
 abbrev keep : Bool
 keep = false
 
+-- the first of the claims needed is dropped
 abbrev drop : Bool
 drop = true
 
+-- no premise: the goal closes
 abbrev closes : List (List Sided)
 closes = []
 
+-- one premise, with these claims
 abbrev adds : List Sided → List (List Sided)
 adds l = l ∷ []
 
--- p of `not p`, `and p q`, `or p q`; q of `and p q`, `or p q`; r and p of `some r p`, `all r p`
+-- p of `not p`, `and p q`, `or p q`
 abbrev pub first : Table → ℕ → ℕ
 first T i = entry T i .x
 
+-- q of `and p q`, `or p q`
 abbrev pub second : Table → ℕ → ℕ
 second T i = entry T i .y
 
+-- r of `some r p`, `all r p`
 abbrev pub roleOf : Table → ℕ → ℕ
 roleOf T i = entry T i .x
 
+-- p of `some r p`, `all r p`
 abbrev pub inner : Table → ℕ → ℕ
 inner T i = entry T i .y
 

@@ -23,6 +23,7 @@ recordBy s (sub i j) =
 recordBy s (link r a b) =
     record { kind = 3; side = s; role = record { 0 = r }; a = record { 0 = a }; b = record { 0 = b }; i = record { 0 = 0 }; j = record { 0 = 0 } }
 
+-- the record of a claim on its side: 1 is left, 2 is right
 abbrev pub recordOf : Sided → Record
 recordOf (left c) = recordBy 1 c
 recordOf (right c) = recordBy 2 c
@@ -35,6 +36,7 @@ blank = record { kind = 0; side = 0; role = record { 0 = 0 }; a = record { 0 = 0
 abbrev pub claimOf : Record → Claim
 claimOf c = cond (eqb (c .kind) 1) (is (c .a .0) (c .i .0)) (cond (eqb (c .kind) 2) (sub (c .i .0) (c .j .0)) (link (c .role .0) (c .a .0) (c .b .0)))
 
+-- the same on its side
 abbrev pub sidedOf : Record → Sided
 sidedOf c = cond (eqb (c .side) 1) (left (claimOf c)) (right (claimOf c))
 

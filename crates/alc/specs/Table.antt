@@ -9,6 +9,7 @@ use Rattle.alc.specs.Lists.{All, any}
 use Rattle.alc.specs.Ranges.{Field, role, concept, concepts}
 use Rattle.alc.specs.Meaning.{Tree}
 
+-- a line's word
 pub data Kind : Type 0 where
   top bot atom not and or some all : Kind
   deriving Discrete as Kind-discrete
@@ -19,9 +20,11 @@ pub record Entry : Type 0 where
   pub x : ℕ
   pub y : ℕ
 
+-- the line of this kind, with these numbers
 abbrev pub entryOf : Kind → ℕ → ℕ → Entry
 entryOf k x y = record { kind = k; x = x; y = y }
 
+-- its lines, the first at 0
 abbrev pub Table : Type 0
 Table = List Entry
 
@@ -52,6 +55,7 @@ fieldsBy Kind.or x y = concept x ∷ concept y ∷ []
 fieldsBy Kind.some x y = role x ∷ concept y ∷ []
 fieldsBy Kind.all x y = role x ∷ concept y ∷ []
 
+-- the same of a line as it stands in the table
 abbrev pub entryFields : Entry → List Field
 entryFields e = fieldsBy (e .kind) (e .x) (e .y)
 
@@ -70,6 +74,7 @@ shape Kind.or x y t = Tree.or (t x) (t y)
 shape Kind.some x y t = Tree.some x (t y)
 shape Kind.all x y t = Tree.all x (t y)
 
+-- the same of a line as it stands in the table
 abbrev pub grow : Entry → (ℕ → Tree) → Tree
 grow e t = shape (e .kind) (e .x) (e .y) t
 

@@ -24,17 +24,19 @@ pub data Verdict : Type 0 where
   proved refuted : ℕ → Verdict
   refused : ℕ → ℕ → Verdict
 
--- 01's three columns
+-- 01's three columns. The first: the word
 abbrev pub word : Verdict → String
 word (proved n) = "proved"
 word (refuted n) = "refuted"
 word (refused k n) = "refused"
 
+-- the second: 0, or the refusal's number
 abbrev pub number : Verdict → ℕ
 number (proved n) = 0
 number (refuted n) = 0
 number (refused k n) = k
 
+-- the third: the count of lines, or the line that the refusal fixes
 abbrev pub line : Verdict → ℕ
 line (proved n) = n
 line (refuted n) = n
@@ -62,6 +64,7 @@ pub record State : Type 0 where
   pub size : ℕ
   pub facts : List Fact
 
+-- the state with these parts, in this order
 abbrev pub state : Part → Table → List Sided → ℕ → List Goal → ℕ → List Fact → State
 state p T cs n gs k fs = record { part = p; table = T; claims = cs; steps = n; goals = gs; size = k; facts = fs }
 

@@ -102,19 +102,22 @@ pub record Plans (k : Kind) (p : Planned) (q : Plan) : Type 0 where
   pub news : newsBy (p .fresh) (p .name .0) ≡ q .news
   pub left : added (p .leaves) (p .first) (p .second) ≡ map (map recordOf) (q .premises)
 
--- the four forms of a plan: a goal closes; one claim comes; a claim goes and its parts come; a claim goes and two come, with a new name
+-- the four forms of a plan. A goal closes
 abbrev pub closing : ℕ → ℕ → Record → Record → Planned
 closing k n need also =
     record { kind = k; needs = n; need = need; also = also; drops = false; fresh = false; name = record { 0 = 0 }; leaves = 0; first = need; second = need }
 
+-- one claim comes
 abbrev pub adding : ℕ → ℕ → Record → Record → Record → Planned
 adding k n need also new =
     record { kind = k; needs = n; need = need; also = also; drops = false; fresh = false; name = record { 0 = 0 }; leaves = 1; first = new; second = new }
 
+-- a claim goes and its parts come
 abbrev pub parting : ℕ → Record → ℕ → Record → Record → Planned
 parting k need l first second =
     record { kind = k; needs = 1; need = need; also = need; drops = true; fresh = false; name = record { 0 = 0 }; leaves = l; first = first; second = second }
 
+-- a claim goes and two come, with a new name
 abbrev pub opening : ℕ → Record → Name → Record → Record → Planned
 opening k need b first second =
     record { kind = k; needs = 1; need = need; also = need; drops = true; fresh = true; name = b; leaves = 2; first = first; second = second }

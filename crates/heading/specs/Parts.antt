@@ -29,10 +29,11 @@ entryIn l = entryOf (kindAt (l .word)) (l .n0 % 256) (l .n1 % 256)
 unfoldable pub entryRows : Table → Line → List Row
 entryRows T l = row 5 (ltb (length T) 256) ∷ row 3 (every (inRange (length T) 0) (saidFields (saying l))) ∷ row 4 (not (stands T (entryIn l))) ∷ []
 
--- the state in the table, and in the claims
+-- the state in the table
 abbrev pub inTable : Table → State
 inTable T = record { part = table; table = T; claims = []; steps = 0; goals = []; size = 0; facts = [] }
 
+-- the state in the claims, behind this table
 abbrev pub inClaims : Table → List Sided → State
 inClaims T cs = record { part = claims; table = T; claims = cs; steps = 0; goals = []; size = 0; facts = [] }
 
@@ -57,6 +58,7 @@ claimIn l =
     (cond (eqb (l .word) 9) (sub (l .n0 % 256) (l .n1 % 256))
     (link (l .n0 % 256) (l .n1 % 256) (l .n2 % 256)))
 
+-- the same on its side
 abbrev pub sidedIn : Line → Sided
 sidedIn l = cond (eqb (l .side) 1) (left (claimIn l)) (right (claimIn l))
 
@@ -64,10 +66,11 @@ sidedIn l = cond (eqb (l .side) 1) (left (claimIn l)) (right (claimIn l))
 unfoldable pub claimRows : ℕ → ℕ → Line → List Row
 claimRows entries n l = row 5 (ltb n 64) ∷ row 3 (every (inRange entries 0) (saidFields (saying l))) ∷ []
 
--- the state in the steps, and in the model before its size and behind it
+-- the state in the steps, with n of them behind it and these goals open
 abbrev pub inSteps : Table → List Sided → ℕ → List Goal → State
 inSteps T cs n gs = record { part = steps; table = T; claims = cs; steps = n; goals = gs; size = 0; facts = [] }
 
+-- the state in a model before its size
 abbrev pub atStart : Table → List Sided → State
 atStart T cs = record { part = start; table = T; claims = cs; steps = 0; goals = []; size = 0; facts = [] }
 

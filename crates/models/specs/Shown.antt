@@ -41,6 +41,7 @@ seatsOf places a = seats (getD places a 0)
 abbrev pub seatOf : List ℕ → ℕ → ℕ
 seatOf places a = getD (seatsOf places a) 0 0
 
+-- name a is placed
 abbrev pub isSeated : List ℕ → ℕ → Bool
 isSeated places a = not (isEmpty (seatsOf places a))
 

@@ -11,6 +11,7 @@ use Rattle.numbers.specs.declared.Num.the-variants.{Is, Not}
 use Rattle.numbers.specs.declared.Nums.{Nums}
 use Rattle.numbers.specs.declared.Nums.the-variants.{Are, Not as NotAll}
 
+-- a field of this value that ends there, if it is a number
 abbrev pub numBy : Bool → ℕ → ℕ → Num
 numBy true v next = Is v next
 numBy false v next = Not
@@ -19,6 +20,7 @@ numBy false v next = Not
 unfoldable pub numberIn : ℕ → List ℕ → Num
 numberIn at xs = numBy (isNumber (fieldOf xs)) (value (fieldOf xs)) (at + length (fieldOf xs))
 
+-- the values of these fields, with the position behind the line, if it is well formed
 abbrev pub numsBy : Bool → List (List ℕ) → ℕ → Nums
 numsBy true fs next = Are (value (getD fs 0 [])) (value (getD fs 1 [])) (value (getD fs 2 [])) (value (getD fs 3 [])) next
 numsBy false fs next = NotAll

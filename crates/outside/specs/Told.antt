@@ -13,5 +13,6 @@ told (refused k n) = 2
 abbrev pub packedBy : ℕ → ℕ → ℕ → ℕ
 packedBy w k n = n % 4294967296 * 65536 + k * 256 + w
 
+-- a verdict as one number
 abbrev pub packed : Verdict → ℕ
 packed v = packedBy (told v) (number v) (line v)

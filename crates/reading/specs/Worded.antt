@@ -12,6 +12,7 @@ use Rattle.numbers.specs.declared.Nums.{Nums}
 use Rattle.numbers.specs.declared.Nums.the-variants.{Are, Not as NotAll}
 use Rattle.reading.specs.declared.Part.{Part}
 
+-- the line of word w and side s with these numbers
 abbrev pub nextBy : ℕ → ℕ → Nums → Next
 nextBy w s NotAll = Bad
 nextBy w s (Are a b c d next) = Found (record { word = w; side = s; n0 = a; n1 = b; n2 = c; n3 = d }) next

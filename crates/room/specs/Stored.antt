@@ -24,5 +24,6 @@ stored l base cs n = copied l base cs 0 n
 abbrev pub fetched : List Claim → ℕ → ℕ → List Claim
 fetched l base n = copied blanks 0 l base n
 
+-- the goal of the first n of these records
 abbrev pub goalOf : List Claim → ℕ → Goal
 goalOf cs n = record { claims = cs; count = n }

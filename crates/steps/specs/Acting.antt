@@ -19,6 +19,7 @@ use Rattle.heading.specs.Parts.{Columns, inSteps}
 use Rattle.steps.specs.declared.State.{State}
 use Rattle.steps.specs.declared.Act.{Act}
 
+-- the state with these parts, in this order
 abbrev pub stateOf : Records → List ℕ → ℕ → ℕ → ℕ → ℕ → Bool → ℕ → State
 stateOf g counts opened steps lines at ended k =
     record { goal = g; counts = counts; «open» = opened; steps = steps; lines = lines; at = at; ended = ended; number = k }

@@ -9,6 +9,7 @@ use Rattle.alc.specs.Claims.{Claim, is, sub, link, Sided, left, right}
 use Rattle.models.specs.Bit.{bit}
 use Rattle.models.specs.Shown.{seatOf, edgeIn}
 
+-- a claim is true among n elements, with these sets of the concepts, these places and these edges
 abbrev pub truthIn : ℕ → List ℕ → List ℕ → List ℕ → Claim → Bool
 truthIn n ext places edges (is a i) = bit (getD ext i 0) (seatOf places a)
 truthIn n ext places edges (sub i j) = everyBelow n (λ d. not (bit (getD ext i 0) d) || bit (getD ext j 0) d)
