@@ -1,5 +1,5 @@
 // The model of a dossier: its size, and its facts line by line, told to the arrays of `models`; at the end the claims are judged by them.
-// Words and numbers come from `lines`, ranges from `heading`, and no byte is seen here.
+// Words and numbers come from `reading`, ranges from `heading`, and no byte is seen here.
 use alc::Answer;
 use alc::Atom;
 use alc::Element;

@@ -1,5 +1,5 @@
-// The steps of a derivation, read line by line: each works on the current goal and leaves its premises. The rules come from `goals`, the
-// lines from `lines`, and no byte is seen here.
+// The steps of a derivation, read line by line: each works on the current goal and leaves its premises. The rules come from `turns`, the
+// lines from `reading`, and no byte is seen here.
 use alc::Concept;
 use alc::Goal;
 use alc::Name;
