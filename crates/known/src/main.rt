@@ -3,6 +3,7 @@ use alc::Answer;
 ghost use mathlib.Core.Path.{_≡_};
 ghost use lib.ListN.{length};
 
+// All of them, in document 01's order.
 fn main() {
     first();
     second();
@@ -91,6 +92,7 @@ fn fourth() {
     many(b"K14 65536 bytes", 65536);
 }
 
+// A dossier's name and its verdict.
 fn show(name: &[u8], text: &[u8]) {
     io::write_all(1, name);
     io::write_all(1, b"\t");
@@ -105,6 +107,7 @@ fn many(name: &[u8], n: usize) {
     }
 }
 
+// As many as the longest of them has.
 fn empty_lines() -> [u8; 65536]
     ensures { λ r. ⌜ 65536 ≡ length r ⌝ }
 {

@@ -122,19 +122,21 @@ fn entries_of(o: Opening) -> usize
     o.entries
 }
 
-// Its columns.
+// Its column of kinds.
 fn kinds_of(o: Opening) -> [u8; 256]
     ensures { λ r. ⌜ r ≡ o .kinds ⌝ }
 {
     o.kinds
 }
 
+// Its column of first numbers.
 fn firsts_of(o: Opening) -> [u8; 256]
     ensures { λ r. ⌜ r ≡ o .firsts ⌝ }
 {
     o.firsts
 }
 
+// Its column of second numbers.
 fn seconds_of(o: Opening) -> [u8; 256]
     ensures { λ r. ⌜ r ≡ o .seconds ⌝ }
 {
