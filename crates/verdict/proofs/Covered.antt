@@ -4,13 +4,14 @@ use prog.Routine.{Env}
 use borrow.Fn.World.{World}
 use Rattle.room.proofs.Says.{Fun!, Knows}
 use Rattle.room.proofs as Q
+use Rattle.opening.proofs as O
 use Rattle.verdict.proofs as P
 
 abbrev pub opened : Fun!
-opened = record { name = P.opened.Symbol.name; n = 1; ps = P.opened.Kinds.ps; r = P.opened.Kinds.r; P = P.opened.Reads.Asked; Q = P.opened.Reads.Learnt }
+opened = record { name = O.opened.Symbol.name; n = 1; ps = O.opened.Kinds.ps; r = O.opened.Kinds.r; P = O.opened.Reads.Asked; Q = O.opened.Reads.Learnt }
 
-pub opened! : (w : World) (γ : Env) → γ P.opened.Symbol.name ≡ P.opened.Symbol.routine → Knows opened w γ
-opened! w γ e = P.opened.Reads.known w γ P.opened.Symbol.name P.opened.Symbol.routine e (P.opened.Met.met (w .𝓤) (w .H) (w .𝓜) (w .𝓖) (w .𝓡))
+pub opened! : (w : World) (γ : Env) → γ O.opened.Symbol.name ≡ O.opened.Symbol.routine → Knows opened w γ
+opened! w γ e = O.opened.Reads.known w γ O.opened.Symbol.name O.opened.Symbol.routine e (O.opened.Met.met (w .𝓤) (w .H) (w .𝓜) (w .𝓖) (w .𝓡))
 
 abbrev pub follows : Fun!
 follows = record { name = P.follows.Symbol.name; n = 0; ps = P.follows.Kinds.ps; r = P.follows.Kinds.r; P = P.follows.Reads.Asked; Q = P.follows.Reads.Learnt }

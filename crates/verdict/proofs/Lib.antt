@@ -1,5 +1,5 @@
--- `Begins`: the rows before the first line, and what an opening comes to. `Tables`: the types and contracts of the functions over the room.
+-- `Runs`: what an opening comes to after which a derivation follows. `Tables`: the types and contracts of the functions over the room.
 -- `Covered`: the functions by value that they call.
-pub mod Begins
+pub mod Runs
 pub mod Tables
 pub mod Covered

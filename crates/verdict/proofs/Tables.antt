@@ -1,7 +1,7 @@
 -- The types of the judging functions as the rules take them, the facts about them that `search` needs, and the contracts. `judge` has two
 -- lifetimes, of the room and of the text; it lends the room at the third and the columns at the three after it. Assumes nothing.
-use mathlib.Core.Path.{_≡_, refl}
-use mathlib.Core.List.{List, [], _∷_}
+use mathlib.Core.Path.{_≡_}
+use mathlib.Core.List.{[], _∷_}
 use Prim.Native.Nat.{ℕ}
 use lib.Dec.{lit<}
 use lib.ListN.{length, replicate}
@@ -28,8 +28,8 @@ use Rattle.room.proofs.Says.{Con}
 use Rattle.room.proofs.Walk.{ev, W, Data, mirOf, refS, copied, let-go, slice-ofS, slice-goneS, array-gone}
 use Rattle.room.proofs.Claims.{data!, claim-copied, claim-gone, claim-read, claim-is, claims-full, claims-gone, room-ptr, room-len, room-lent, lent-whole}
 use Rattle.derivation.proofs.Tables.{state, state-copied, state-gone, answerR, bytes, bytes-whole, bytes-spare}
-use Rattle.verdict.proofs.Opening as OT
-use Rattle.verdict.proofs.Opening.Laws as OT′
+use Rattle.opening.proofs.Opening as OT
+use Rattle.opening.proofs.Opening.Laws as OT′
 
 -- ---- types
 abbrev pub opening : Data

@@ -1,11 +1,9 @@
 -- `verdict::judge` meets its contract: the opening gives the verdict, or where the judge is at the first step, from which the loop goes on; and
 -- on both ways the room is blanked whole. Assumes nothing.
-use mathlib.Core.Path.{_≡_, refl, sym, ap, _∙_}
-use mathlib.Core.Bool.{true, false}
-use mathlib.Core.List.{List, [], _∷_}
-use Prim.Native.Nat.{ℕ}
+use mathlib.Core.Path.{refl, sym, ap, _∙_}
+use mathlib.Core.List.{[], _∷_}
 use lib.Dec.{lit<}
-use lib.ListN.{length, replicate}
+use lib.ListN.{length}
 use mir.Syntax.{w64, field, named, erased}
 use mir.Val.{vint}
 use contract.Running.{tablesOf}
@@ -23,7 +21,7 @@ use Rattle.derivation.proofs as D
 use Rattle.derivation.proofs.Tables as DC
 use Rattle.derivation.proofs.Tables.{bytes, τ}
 use Rattle.alc.specs.Shown.{answered}
-use Rattle.verdict.proofs.Begins.{runs, comes-to}
+use Rattle.verdict.proofs.Runs.{runs, comes-to}
 use Rattle.verdict.proofs.Covered as F
 use Rattle.verdict.proofs.Tables as C
 use Rattle.verdict.proofs.Tables.{rules}
@@ -135,7 +133,7 @@ judge-spec 𝓤 H 𝓜 𝓖 𝓡 =
     let w : World = record { M = _; 𝓤 = 𝓤; H = H; 𝓜 = 𝓜; 𝓖 = 𝓖; 𝓡 = 𝓡 } in
     let judge-steps = knows DC.judge-steps w code.env D.judge_steps.Symbol.routine code.calls-derivation·judge-steps (D.judge_steps.Met.met 𝓤 H 𝓜 𝓖 𝓡) in
     let blank-all = knows RC.blank-all w code.env R.blank_all.Symbol.routine code.calls-room·blank-all (R.blank_all.Met.met 𝓤 H 𝓜 𝓖 𝓡) in
-    let opened = F.opened! w code.env code.calls-verdict·opened in
+    let opened = F.opened! w code.env code.calls-opening·opened in
     let follows = F.follows! w code.env code.calls-verdict·follows in
     let kinds-of = F.kinds-of! w code.env code.calls-verdict·kinds-of in
     let firsts-of = F.firsts-of! w code.env code.calls-verdict·firsts-of in

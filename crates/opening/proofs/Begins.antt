@@ -10,16 +10,13 @@ use Rattle.lines.specs.Text.{linesOf}
 use Rattle.alc.specs.Rows.{refusal}
 use Rattle.alc.specs.Claims.{Sided}
 use Rattle.alc.specs.Shown.{answered, Shows, tableOf}
-use Rattle.alc.specs.declared.Claim.{Claim as Record}
 use Rattle.alc.specs.declared.Goal.{Goal as Records}
 use Rattle.heading.specs.Parts.{Columns, inSteps}
-use Rattle.steps.specs.Acting.{begunOf, noCounts, Fits, Ready}
-use Rattle.derivation.specs.Waiting.{Waiting, Stands}
+use Rattle.steps.specs.Acting.{begunOf, noCounts, Fits}
 use Rattle.alc.specs.Verdict.{Verdict, refused, judge, begin, outerRows, verdict}
 use Rattle.alc.specs.declared.Answer.{Answer}
-use Rattle.steps.specs.declared.State.{State}
-use Rattle.verdict.specs.Opened.{decidedOf, followingOf, Opens, Begins}
-use Rattle.verdict.specs.declared.Opening.{Opening}
+use Rattle.opening.specs.Opened.{decidedOf, followingOf, Opens, Begins}
+use Rattle.opening.specs.declared.Opening.{Opening}
 
 -- what follows the rows
 abbrev next : List ℕ → ℕ → Verdict
@@ -59,12 +56,3 @@ opens-following n text o entries ks xs ys claims at lines cs e wide columns fits
   there = λ f. absurd (false≢true (sym f ∙ ap (λ (p : Opening). p .follows) e));
   begins = λ f. subst (Begins n text) (sym e) (record { wide = wide; ready = record { columns = columns; fits = fits; going = refl; few = omega arith; small = few; slots = length-replicate {A = ℕ} 16 0; sizes = λ i. rw (zeros 16 i) (omega arith); within = within; counted = counted }; cs = cs; alone = refl; current = shown; so = so });
 }
-
--- at what the functions by value give of an opening after which a derivation follows: the loop can run, and its verdict is that of the text
-module _ (n : ℕ) (text : List ℕ) (o : Opening) (b : Begins n text o) (ks xs ys : List ℕ) (entries : ℕ) (s : State) (ek : ks ≡ o .kinds) (ex : xs ≡ o .firsts) (ey : ys ≡ o .seconds) (en : entries ≡ o .entries) (es : s ≡ o .state) where
-  pub runs : (1088 ≤ n) × Ready text ks xs ys entries s
-  runs = (b .wide, rw (ek, ex, ey, en, es) (b .ready))
-
-  pub comes-to : (l : List Record) (a : Answer) → ((cs : List Sided) (v : Verdict) → Stands (tableOf ks xs ys entries) cs text v l s → answered a ≡ v) → answered a ≡ verdict n text
-  unfolding Waiting
-  comes-to l a h = h (b .cs) (verdict n text) (rw (ek, ex, ey, en, es) (record { goals = b .cs ∷ []; count = b .alone; current = b .current; waiting = tt; so = b .so }))

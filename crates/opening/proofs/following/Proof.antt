@@ -1,9 +1,8 @@
--- `verdict::following` meets its contract: the record is as written, and an array that is passed has its length. Assumes nothing.
-use mathlib.Core.Path.{_≡_, refl}
+-- `opening::following` meets its contract: the record is as written, and an array that is passed has its length. Assumes nothing.
+use mathlib.Core.Path.{refl}
 use native.Mathlib.Omega.{arith}
-use borrow.Author.Needs.{needs}
-use Rattle.verdict.proofs.following.Statement.{statement}
-use Rattle.verdict.proofs.following.Tie as tie
+use Rattle.opening.proofs.following.Statement.{statement}
+use Rattle.opening.proofs.following.Tie as tie
 
 returns : tie.Need-returns
 returns c =

@@ -4,14 +4,13 @@ use Prim.Native.Nat.{ℕ, _≤_}
 use mathlib.Core.Bool.{true, false}
 use mathlib.Core.List.{List, [], _∷_}
 use mathlib.Core.Path.{_≡_}
-use lib.ListN.{length}
 use Rattle.alc.specs.Claims.{Sided}
 use Rattle.alc.specs.Shown.{Shows, tableOf, answered}
 use Rattle.alc.specs.Verdict.{verdict}
 use Rattle.alc.specs.declared.Answer.{Answer}
-use Rattle.steps.specs.Acting.{Ready, from, Current}
+use Rattle.steps.specs.Acting.{Ready, from}
 use Rattle.steps.specs.declared.State.{State}
-use Rattle.verdict.specs.declared.Opening.{Opening}
+use Rattle.opening.specs.declared.Opening.{Opening}
 
 -- no derivation follows
 abbrev pub decidedOf : Answer → List ℕ → List ℕ → List ℕ → State → Opening

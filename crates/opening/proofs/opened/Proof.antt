@@ -1,8 +1,8 @@
--- `verdict::opened` meets its contract: each part of the dossier is judged where the part before it left off. Assumes nothing.
+-- `opening::opened` meets its contract: each part of the dossier is judged where the part before it left off. Assumes nothing.
 use Prim.Native.Nat.{ℕ, _≤_}
-use mathlib.Core.List.{List, [], _∷_, map}
+use mathlib.Core.List.{List, [], map}
 use mathlib.Core.Bool.{true}
-use mathlib.Core.Path.{_≡_, refl, sym, ap, subst, _∙_}
+use mathlib.Core.Path.{_≡_, sym, ap, subst, _∙_}
 use native.Mathlib.Omega.{arith}
 use native.Mathlib.Numerals.{add-one}
 use lib.ListN.{length, drop}
@@ -17,10 +17,10 @@ use Rattle.alc.specs.Shown.{tableOf, sidedOf, records}
 use Rattle.alc.specs.Verdict.{refused, judge as judgeFrom, begin, verdict}
 use Rattle.alc.proofs.ShownLaws.{table-length, all-back}
 use Rattle.heading.specs.Parts.{inClaims, TableRead, ClaimsRead}
-use Rattle.verdict.specs.Opened.{followingOf}
-use Rattle.verdict.proofs.Begins.{verdict-narrow, verdict-long, verdict-short, opens-decided, opens-following}
-use Rattle.verdict.proofs.opened.Statement.{statement}
-use Rattle.verdict.proofs.opened.Tie as tie
+use Rattle.opening.specs.Opened.{followingOf}
+use Rattle.opening.proofs.Begins.{verdict-narrow, verdict-long, verdict-short, opens-decided, opens-following}
+use Rattle.opening.proofs.opened.Statement.{statement}
+use Rattle.opening.proofs.opened.Tie as tie
 
 returns : tie.Need-returns
 returns c = opens-decided _ _ _ _ (c .decided .ensures) (sym (verdict-narrow _ _ (c .before .if1 .taken)))
