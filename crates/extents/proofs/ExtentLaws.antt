@@ -15,10 +15,10 @@ use Rattle.alc.specs.Ranges.{concepts}
 use Rattle.alc.specs.Meaning.{World, someBelow, everyBelow}
 use Rattle.alc.specs.Table.{Kind, fieldsBy}
 use Rattle.alc.specs.Shown.{kindAt}
-use Rattle.models.specs.Bit.{bit, common}
+use Rattle.sets.specs.Bit.{bit, common}
 use Rattle.extents.specs.Extent.{extent}
 use Rattle.models.specs.Shown.{edgeIn}
-use Rattle.models.proofs.Bools.{and-off}
+use Rattle.sets.proofs.Bools.{and-off}
 
 some-same : (n : ℕ) (f g : ℕ → Bool) → ((e : ℕ) → e < n → f e ≡ g e) → someBelow n f ≡ someBelow n g
 some-same zero f g h = refl

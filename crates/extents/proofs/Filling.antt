@@ -16,10 +16,10 @@ use Rattle.alc.specs.Meaning.{World, member}
 use Rattle.alc.specs.Table.{Kind, Table, Entry, entry, entryOf, entryFields, parts, treeOf, WellFormed}
 use Rattle.alc.specs.Shown.{tableOf}
 use Rattle.alc.proofs.ShownLaws.{lineAt, table-at}
-use Rattle.models.specs.Bit.{bit}
+use Rattle.sets.specs.Bit.{bit}
 use Rattle.extents.specs.Extent.{extent, Extended}
 use Rattle.models.specs.Shown.{Below, Tabled}
-use Rattle.models.proofs.BitLaws.{zeros, bit-zero, ltb-more}
+use Rattle.sets.proofs.BitLaws.{zeros, bit-zero, ltb-more}
 use Rattle.extents.proofs.ExtentLaws.{clip, extent-same}
 use Rattle.alc.proofs.ListFacts.{All-map}
 use Rattle.extents.proofs.Trees.{below-more, member-law}

@@ -14,7 +14,7 @@ use lib.Seq.{ext-getD}
 use borrow.Author.Tests.{eqb-true, eqb-false, lt-ltb}
 use Rattle.alc.specs.Meaning.{World}
 use Rattle.alc.specs.Table.{Table}
-use Rattle.models.specs.Bit.{bit}
+use Rattle.sets.specs.Bit.{bit}
 use Rattle.extents.specs.Extent.{Extended}
 use Rattle.models.specs.Shown.{atomIn, edgeIn, seats, seatsOf, PlaceSet, AtomSet, EdgeSet}
 

@@ -8,7 +8,7 @@ use lib.Dec.{ltb}
 use lib.ListN.{getD}
 use Rattle.alc.specs.Meaning.{World, member, someBelow, everyBelow}
 use Rattle.alc.specs.Table.{Kind, Table, treeOf}
-use Rattle.models.specs.Bit.{bit}
+use Rattle.sets.specs.Bit.{bit}
 
 -- m says which elements the lines above have
 abbrev pub extent : World → Kind → ℕ → ℕ → (ℕ → ℕ → Bool) → ℕ → Bool

@@ -1,10 +1,10 @@
 // The elements of each line of the concept table in a model, as sets of 32 bits, worked out from those of the lines above it.
-use models::full;
-use models::inside;
-use models::marked;
-use models::meets;
-use models::outside;
-use models::set_of;
+use sets::full;
+use sets::inside;
+use sets::marked;
+use sets::meets;
+use sets::outside;
+use sets::set_of;
 ghost use mathlib.Core.Path.{_≡_};
 ghost use mathlib.Core.Bool.{_&&_, _||_, not};
 ghost use Prim.Native.Nat.{ℕ, _+_, _*_, _<_};
@@ -14,8 +14,8 @@ ghost use Rattle.alc.specs.Lists.{All};
 ghost use Rattle.alc.specs.Meaning.{someBelow, everyBelow};
 ghost use Rattle.alc.specs.Table.{fieldsBy};
 ghost use Rattle.alc.specs.Shown.{kindAt, tableOf};
-ghost use Rattle.models.specs.Bit.{bit, common};
-ghost use Rattle.models.specs.Shown.{worldOf, edgeIn, Below, Sized, Tabled};
+ghost use Rattle.sets.specs.Bit.{bit, common, Sized};
+ghost use Rattle.models.specs.Shown.{worldOf, edgeIn, Below, Tabled};
 ghost use Rattle.extents.specs.Extent.{extent as extentOf, Extended};
 
 // The elements of a size with an edge of the role into the set.

@@ -36,7 +36,8 @@ use Rattle.heading.specs.Parts.{Columns, atStart}
 use Rattle.heading.proofs.Small.{small}
 use Rattle.heading.proofs.Judging.{judge-end, judge-bad, judge-next, judge-refused}
 use Rattle.heading.proofs.TableLaws.{byte}
-use Rattle.models.specs.Shown.{Below, Ranged, Sized, Tabled, Claimed, allSeated, interpShown}
+use Rattle.sets.specs.Bit.{Sized}
+use Rattle.models.specs.Shown.{Below, Ranged, Tabled, Claimed, allSeated, interpShown}
 use Rattle.models.specs.Told.{Tells}
 use Rattle.models.proofs.InRange.{in-range}
 use Rattle.alc.proofs.ListFacts.{All-map}

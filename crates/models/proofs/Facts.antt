@@ -15,11 +15,11 @@ use Rattle.alc.specs.Claims.{Sided, claim, names}
 use Rattle.alc.specs.Shown.{sidedOf, records}
 use Rattle.alc.specs.declared.Goal.{Goal as Records}
 use Rattle.alc.specs.Model.{Fact, Fact-discrete, places, has, edge, isSaid, placesOf, placesIn, repeats, interpOf, allPlaced}
-use Rattle.models.specs.Bit.{bit}
-use Rattle.models.specs.Shown.{atomIn, edgeIn, seats, seatsOf, interpShown, allSeated, withAtom, withEdge, PlaceSet, AtomSet, EdgeSet, Tabled, Sized, Claimed, Ready}
+use Rattle.sets.specs.Bit.{bit, Sized}
+use Rattle.models.specs.Shown.{atomIn, edgeIn, seats, seatsOf, interpShown, allSeated, withAtom, withEdge, PlaceSet, AtomSet, EdgeSet, Tabled, Claimed, Ready}
 use Rattle.models.specs.Told.{Tells}
-use Rattle.models.proofs.Bools.{and-off, and-true, or-none}
-use Rattle.models.proofs.BitLaws.{zeros, bit-zero}
+use Rattle.sets.proofs.Bools.{and-off, and-true, or-none}
+use Rattle.sets.proofs.BitLaws.{zeros, bit-zero}
 
 -- two facts are equal just if they are of one word and their numbers are equal
 decide-is : {P : Type 0} (d : Dec P) (b : Bool) → (P → b ≡ true) → (b ≡ true → P) → decide d ≡ b

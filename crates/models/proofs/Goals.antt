@@ -19,7 +19,7 @@ use Rattle.alc.specs.Shown.{claimOf, sidedOf, records, blank}
 use Rattle.alc.specs.declared.Claim.{Claim as Record}
 use Rattle.alc.specs.declared.Goal.{Goal as Records}
 use Rattle.alc.proofs.Goal.{the-type}
-use Rattle.models.proofs.Bools.{and-true}
+use Rattle.sets.proofs.Bools.{and-true}
 use Rattle.models.specs.Shown.{Below, isSeated, Claimed, Seated, Fit}
 
 -- what a function is told of a goal that it is passed

@@ -15,7 +15,7 @@ use Rattle.alc.specs.Lists.{All, every}
 use Rattle.alc.specs.Ranges.{Field, role, atom, name, element, size, concept, inRange}
 use Rattle.alc.specs.Table.{Kind, Table, Entry, entry, entryOf, entryFields}
 use Rattle.models.specs.Shown.{Below, Ranged}
-use Rattle.models.proofs.Bools.{and-true}
+use Rattle.sets.proofs.Bools.{and-true}
 use Rattle.models.proofs.Goals.{every-All}
 use Rattle.alc.proofs.ListFacts.{All-map}
 

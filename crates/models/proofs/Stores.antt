@@ -13,9 +13,9 @@ use lib.ListN.{length, getD, set}
 use lib.Seq.{getD-set-same, getD-set-other}
 use borrow.Author.Tests.{eq-eqb, ne-eqb, ltb-true, ltb-false}
 use Rattle.alc.specs.Lists.{isEmpty}
-use Rattle.models.specs.Bit.{bit}
+use Rattle.sets.specs.Bit.{bit}
 use Rattle.models.specs.Shown.{atomIn, edgeIn, seats, seatsOf, PlaceSet, worldOf, withAtom, withEdge}
-use Rattle.models.proofs.Bools.{and-off, and-assoc, or-none}
+use Rattle.sets.proofs.Bools.{and-off, and-assoc, or-none}
 
 index-eqb : (r d s f : ℕ) → d < 32 → f < 32 → eqb (r * 32 + d) (s * 32 + f) ≡ (eqb r s && eqb d f)
 index-eqb r d s f h k = go (ℕ-discrete r s) (ℕ-discrete d f)

@@ -14,7 +14,7 @@ use Rattle.alc.specs.Table.{Table, entry, entryFields}
 use Rattle.alc.specs.Claims.{Claim, Sided, claim, claimFields, names}
 use Rattle.alc.specs.Shown.{sidedOf, records, tableOf}
 use Rattle.alc.specs.declared.Goal.{Goal as Records}
-use Rattle.models.specs.Bit.{bit}
+use Rattle.sets.specs.Bit.{bit, Sized}
 
 -- (d, e) is in role r: the successors of d by r are the set at 32 r + d. No element is at or past 32
 unfoldable pub edgeIn : List ℕ → ℕ → ℕ → ℕ → Bool
@@ -93,11 +93,6 @@ Below n k (concept i) = i < n
 -- each line's numbers are in range, and its parts are lines above it
 abbrev pub Ranged : Table → Type 0
 Ranged T = (i : ℕ) → All (Below i 0) (entryFields (entry T i))
-
--- 1 to 32 elements
-pub record Sized (n : ℕ) : Type 0 where
-  pub least : 1 ≤ n
-  pub most : n ≤ 32
 
 -- up to 256 lines, with their numbers in range
 pub record Tabled (ks xs ys : List ℕ) (n : ℕ) : Type 0 where

@@ -13,7 +13,7 @@ use Rattle.alc.specs.Table.{Table, treeOf}
 use Rattle.alc.specs.Claims.{Claim, is, sub, link, Sided, left, right, claim, claimFields, names, truth, good}
 use Rattle.alc.specs.Shown.{sidedOf, records}
 use Rattle.alc.specs.declared.Goal.{Goal as Records}
-use Rattle.models.specs.Bit.{bit}
+use Rattle.sets.specs.Bit.{bit}
 use Rattle.extents.specs.Extent.{Extended}
 use Rattle.models.specs.Shown.{worldOf, interpShown, seatsOf, seatOf, isSeated, Below, Claimed, Seated}
 use Rattle.truth.specs.Truth.{truthIn, wrongIn}

@@ -6,7 +6,7 @@ use mathlib.Core.List.{List}
 use lib.ListN.{getD}
 use Rattle.alc.specs.Meaning.{everyBelow}
 use Rattle.alc.specs.Claims.{Claim, is, sub, link, Sided, left, right}
-use Rattle.models.specs.Bit.{bit}
+use Rattle.sets.specs.Bit.{bit}
 use Rattle.models.specs.Shown.{seatOf, edgeIn}
 
 -- a claim is true among n elements, with these sets of the concepts, these places and these edges

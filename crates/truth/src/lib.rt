@@ -1,9 +1,9 @@
 // The claims in a model: whether all their names are placed, and the first claim that the model gets wrong.
 use extents::extensions;
-use models::in_set;
-use models::meets;
-use models::outside;
-use models::set_of;
+use sets::in_set;
+use sets::meets;
+use sets::outside;
+use sets::set_of;
 ghost use mathlib.Core.Path.{_≡_};
 ghost use mathlib.Core.Bool.{true, _||_, not};
 ghost use mathlib.Core.List.{map};
@@ -12,8 +12,8 @@ ghost use Rattle.alc.specs.Lists.{All, every, firstAt};
 ghost use Rattle.alc.specs.Meaning.{everyBelow};
 ghost use Rattle.alc.specs.Claims.{claimFields, names, good};
 ghost use Rattle.alc.specs.Shown.{tableOf, claimOf, sidedOf, records};
-ghost use Rattle.models.specs.Bit.{bit};
-ghost use Rattle.models.specs.Shown.{edgeIn, seatOf, isSeated, allSeated, interpShown, Below, Sized, Claimed, Seated, Ready, Fit};
+ghost use Rattle.sets.specs.Bit.{bit, Sized};
+ghost use Rattle.models.specs.Shown.{edgeIn, seatOf, isSeated, allSeated, interpShown, Below, Claimed, Seated, Ready, Fit};
 ghost use Rattle.truth.specs.Truth.{truthIn, wrongIn};
 
 // The element at which a placed name is.

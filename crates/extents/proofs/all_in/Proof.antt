@@ -2,7 +2,7 @@
 use native.Mathlib.Omega.{arith}
 use borrow.Author.Needs.{needs}
 use denote.Ref.{now}
-use Rattle.models.specs.Bit.{bit}
+use Rattle.sets.specs.Bit.{bit}
 use Rattle.extents.proofs.ExtentLaws.{all-bits}
 use Rattle.extents.proofs.all_in.Statement.{statement}
 use Rattle.extents.proofs.all_in.Tie as tie

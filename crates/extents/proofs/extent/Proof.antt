@@ -5,9 +5,9 @@ use mathlib.Core.Path.{ap, ap₂, _∙_}
 use borrow.Author.Tests.{lt-ltb}
 use denote.Ref.{now}
 use Rattle.alc.specs.Meaning.{someBelow, everyBelow}
-use Rattle.models.specs.Bit.{bit}
+use Rattle.sets.specs.Bit.{bit}
 use Rattle.models.specs.Shown.{atomIn, edgeIn}
-use Rattle.models.proofs.BitLaws.{bit-zero, bit-and, bit-or}
+use Rattle.sets.proofs.BitLaws.{bit-zero, bit-and, bit-or}
 use Rattle.extents.proofs.ExtentLaws.{other-kind}
 use borrow.Author.Needs.{needs}
 use Rattle.extents.proofs.extent.Statement.{statement}

@@ -8,8 +8,8 @@ use lib.Dec.{ltb}
 use lib.ListN.{getD}
 use borrow.Author.Tests.{le-ltb}
 use denote.Ref.{now}
-use Rattle.models.specs.Bit.{bit, common}
-use Rattle.models.proofs.BitLaws.{bit-zero, step}
+use Rattle.sets.specs.Bit.{bit, common}
+use Rattle.sets.proofs.BitLaws.{bit-zero, step}
 use borrow.Author.Needs.{needs}
 use Rattle.extents.proofs.reaching.Statement.{statement}
 use Rattle.extents.proofs.reaching.Tie as tie

@@ -6,7 +6,7 @@ use Prim.Native.Nat.{_+_, _*_}
 use borrow.Author.Tests.{lt-ltb}
 use lib.ListN.{getD}
 use denote.Ref.{now}
-use Rattle.models.specs.Bit.{bit}
+use Rattle.sets.specs.Bit.{bit}
 use Rattle.models.specs.Shown.{edgeIn}
 use Rattle.models.proofs.Stores.{edge-world}
 use borrow.Author.Needs.{needs}

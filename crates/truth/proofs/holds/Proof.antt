@@ -6,7 +6,7 @@ use mathlib.Core.Bool.{not, _||_}
 use mathlib.Core.Path.{sym, ap, ap₂, subst, _∙_}
 use denote.Ref.{now}
 use Rattle.alc.specs.Meaning.{everyBelow}
-use Rattle.models.specs.Bit.{bit}
+use Rattle.sets.specs.Bit.{bit}
 use Rattle.models.specs.Shown.{edgeIn, Fit}
 use Rattle.truth.specs.Truth.{truthIn}
 use Rattle.truth.proofs.ClaimLaws.{claim-is, claim-sub, claim-link, placed-low}

@@ -5,7 +5,7 @@ use Prim.Native.Nat.{_+_, _*_}
 use lib.ListN.{getD}
 use borrow.Author.Tests.{lt-ltb}
 use denote.Ref.{now}
-use Rattle.models.specs.Bit.{bit}
+use Rattle.sets.specs.Bit.{bit}
 use Rattle.models.specs.Shown.{edgeIn}
 use borrow.Author.Needs.{needs}
 use Rattle.truth.proofs.linked.Statement.{statement}

@@ -5,7 +5,7 @@ use denote.Ref.{now}
 use Rattle.alc.specs.Lists.{All, every}
 use Rattle.alc.specs.Claims.{Claim, claimFields, names}
 use Rattle.models.specs.Shown.{isSeated, Below}
-use Rattle.models.proofs.Bools.{and-on}
+use Rattle.sets.proofs.Bools.{and-on}
 use Rattle.truth.proofs.ClaimLaws.{claim-is, claim-sub, claim-link}
 use Rattle.truth.proofs.placed.Statement.{statement}
 use Rattle.truth.proofs.placed.Tie as tie

@@ -2,7 +2,7 @@
 use native.Mathlib.Omega.{arith}
 use mathlib.Core.Bool.{not}
 use mathlib.Core.Path.{ap, _∙_}
-use Rattle.models.specs.Bit.{bit}
+use Rattle.sets.specs.Bit.{bit}
 use Rattle.extents.proofs.ExtentLaws.{common-some, not-some}
 use borrow.Author.Needs.{needs}
 use Rattle.truth.proofs.within.Statement.{statement}

@@ -1,9 +1,9 @@
--- `models::inside` meets its contract: `&` works bit by bit. Assumes nothing.
+-- `sets::inside` meets its contract: `&` works bit by bit. Assumes nothing.
 use mathlib.Core.Path.{_∙_}
 use borrow.Author.Needs.{needs}
-use Rattle.models.proofs.BitLaws.{bit-and}
-use Rattle.models.proofs.inside.Statement.{statement}
-use Rattle.models.proofs.inside.Tie as tie
+use Rattle.sets.proofs.BitLaws.{bit-and}
+use Rattle.sets.proofs.inside.Statement.{statement}
+use Rattle.sets.proofs.inside.Tie as tie
 
 returns : tie.Need-returns
 returns c = λ e. bit-and (c .full .result) (c .before .args .x) e ∙ rw (c .full .ensures e)

@@ -1,13 +1,13 @@
--- `models::marked` meets its contract: `|` works bit by bit, and 1 shifted by d has the bit d alone. Assumes nothing.
+-- `sets::marked` meets its contract: `|` works bit by bit, and 1 shifted by d has the bit d alone. Assumes nothing.
 use Prim.Native.Nat.{_*_, _^_, _%_}
 use native.Mathlib.Omega.{arith}
 use mathlib.Core.Path.{sym, _∙_}
 use borrow.Author.Needs.{needs}
-use Rattle.models.specs.Bit.{bit}
-use Rattle.models.proofs.Bools.{or-none}
-use Rattle.models.proofs.BitLaws.{bit-or, bit-one}
-use Rattle.models.proofs.marked.Statement.{statement}
-use Rattle.models.proofs.marked.Tie as tie
+use Rattle.sets.specs.Bit.{bit}
+use Rattle.sets.proofs.Bools.{or-none}
+use Rattle.sets.proofs.BitLaws.{bit-or, bit-one}
+use Rattle.sets.proofs.marked.Statement.{statement}
+use Rattle.sets.proofs.marked.Tie as tie
 
 returns : tie.Need-returns
 returns c = λ e.

@@ -13,8 +13,8 @@ use lib.ListN.{getD, replicate}
 use lib.Pow.{pow-pos, pow-mono, pow-lt, pow-add, shl-exact, shl-shr, high, ones-split, ones-lt}
 use lib.Bits.{bitAnd, bitOr, bitXor, and-shr, or-shr, xor-shr, and-mod, or-mod, xor-mod, and-lt}
 use borrow.Author.Tests.{ltb-true, ltb-false, lt-ltb, le-ltb, eq-eqb, ne-eqb, eqb-false}
-use Rattle.models.specs.Bit.{bit}
-use Rattle.models.proofs.Bools.{and-on, and-off, or-none}
+use Rattle.sets.specs.Bit.{bit}
+use Rattle.sets.proofs.Bools.{and-on, and-off, or-none}
 use Rattle.alc.specs.Meaning.{someBelow}
 
 abbrev differs : Bool → Bool → Bool

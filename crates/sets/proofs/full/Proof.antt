@@ -1,9 +1,9 @@
--- `models::full` meets its contract: 32 ones, shifted down, are as many ones as the size says. Assumes nothing.
+-- `sets::full` meets its contract: 32 ones, shifted down, are as many ones as the size says. Assumes nothing.
 use native.Mathlib.Omega.{arith}
 use borrow.Author.Needs.{needs}
-use Rattle.models.proofs.BitLaws.{bit-full}
-use Rattle.models.proofs.full.Statement.{statement}
-use Rattle.models.proofs.full.Tie as tie
+use Rattle.sets.proofs.BitLaws.{bit-full}
+use Rattle.sets.proofs.full.Statement.{statement}
+use Rattle.sets.proofs.full.Tie as tie
 
 returns : tie.Need-returns
 returns c = λ e. bit-full (c .args .size) e (omega arith)

@@ -1,0 +1,2 @@
+-- A set of elements as a number.
+pub mod Bit
