@@ -13,11 +13,12 @@ use Rattle.alc.specs.Shown.{answered, Shows, tableOf}
 use Rattle.alc.specs.declared.Claim.{Claim as Record}
 use Rattle.alc.specs.declared.Goal.{Goal as Records}
 use Rattle.heading.specs.Parts.{Columns, inSteps}
-use Rattle.steps.specs.Acting.{begunOf, noCounts, Fits, Ready}
+use Rattle.states.specs.Standing.{begunOf, noCounts}
+use Rattle.states.specs.declared.State.{State}
+use Rattle.steps.specs.Acting.{Fits, Ready}
 use Rattle.derivation.specs.Waiting.{Waiting, Stands}
 use Rattle.alc.specs.Verdict.{Verdict, refused, judge, begin, outerRows, verdict}
 use Rattle.alc.specs.declared.Answer.{Answer}
-use Rattle.steps.specs.declared.State.{State}
 use Rattle.verdict.specs.Opened.{decidedOf, followingOf, Opens, Begins}
 use Rattle.verdict.specs.declared.Opening.{Opening}
 

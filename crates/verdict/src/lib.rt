@@ -1,7 +1,7 @@
 // The judging function: a text and a lent room in, the verdict out, and the room is blank afterwards.
 use alc::Answer;
 use alc::Claim;
-use steps::State;
+use states::State;
 ghost use mathlib.Core.Path.{_≡_};
 ghost use Prim.Native.Nat.{_≤_};
 ghost use lib.ListN.{length, replicate};
@@ -32,7 +32,7 @@ fn decided(answer: Answer) -> Opening
         kinds: [0; 256],
         firsts: [0; 256],
         seconds: [0; 256],
-        state: steps::begun(goals::empty(), 0, 0),
+        state: states::begun(goals::empty(), 0, 0),
     }
 }
 
@@ -97,7 +97,7 @@ fn opened(text: &[u8], records: usize) -> Opening
         kinds,
         firsts,
         seconds,
-        steps::begun(claims, h.at, h.lines),
+        states::begun(claims, h.at, h.lines),
     )
 }
 
