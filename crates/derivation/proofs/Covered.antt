@@ -3,6 +3,7 @@ use mathlib.Core.Path.{_≡_}
 use prog.Routine.{Env}
 use borrow.Fn.World.{World}
 use Rattle.room.proofs.Says.{Fun!, Knows}
+use Rattle.states.proofs as S
 use Rattle.steps.proofs as Q
 use Rattle.derivation.proofs as P
 
@@ -13,22 +14,22 @@ pub act-at! : (w : World) (γ : Env) → γ Q.act_at.Symbol.name ≡ Q.act_at.Sy
 act-at! w γ e = Q.act_at.Reads.known w γ Q.act_at.Symbol.name Q.act_at.Symbol.routine e (Q.act_at.Met.met (w .𝓤) (w .H) (w .𝓜) (w .𝓖) (w .𝓡))
 
 abbrev pub took : Fun!
-took = record { name = Q.took.Symbol.name; n = 0; ps = Q.took.Kinds.ps; r = Q.took.Kinds.r; P = Q.took.Reads.Asked; Q = Q.took.Reads.Learnt }
+took = record { name = S.took.Symbol.name; n = 0; ps = S.took.Kinds.ps; r = S.took.Kinds.r; P = S.took.Reads.Asked; Q = S.took.Reads.Learnt }
 
-pub took! : (w : World) (γ : Env) → γ Q.took.Symbol.name ≡ Q.took.Symbol.routine → Knows took w γ
-took! w γ e = Q.took.Reads.known w γ Q.took.Symbol.name Q.took.Symbol.routine e (Q.took.Met.met (w .𝓤) (w .H) (w .𝓜) (w .𝓖) (w .𝓡))
+pub took! : (w : World) (γ : Env) → γ S.took.Symbol.name ≡ S.took.Symbol.routine → Knows took w γ
+took! w γ e = S.took.Reads.known w γ S.took.Symbol.name S.took.Symbol.routine e (S.took.Met.met (w .𝓤) (w .H) (w .𝓜) (w .𝓖) (w .𝓡))
 
 abbrev pub after : Fun!
-after = record { name = Q.after.Symbol.name; n = 0; ps = Q.after.Kinds.ps; r = Q.after.Kinds.r; P = Q.after.Reads.Asked; Q = Q.after.Reads.Learnt }
+after = record { name = S.after.Symbol.name; n = 0; ps = S.after.Kinds.ps; r = S.after.Kinds.r; P = S.after.Reads.Asked; Q = S.after.Reads.Learnt }
 
-pub after! : (w : World) (γ : Env) → γ Q.after.Symbol.name ≡ Q.after.Symbol.routine → Knows after w γ
-after! w γ e = Q.after.Reads.known w γ Q.after.Symbol.name Q.after.Symbol.routine e (Q.after.Met.met (w .𝓤) (w .H) (w .𝓜) (w .𝓖) (w .𝓡))
+pub after! : (w : World) (γ : Env) → γ S.after.Symbol.name ≡ S.after.Symbol.routine → Knows after w γ
+after! w γ e = S.after.Reads.known w γ S.after.Symbol.name S.after.Symbol.routine e (S.after.Met.met (w .𝓤) (w .H) (w .𝓜) (w .𝓖) (w .𝓡))
 
 abbrev pub aside : Fun!
-aside = record { name = Q.aside.Symbol.name; n = 0; ps = Q.aside.Kinds.ps; r = Q.aside.Kinds.r; P = Q.aside.Reads.Asked; Q = Q.aside.Reads.Learnt }
+aside = record { name = S.aside.Symbol.name; n = 0; ps = S.aside.Kinds.ps; r = S.aside.Kinds.r; P = S.aside.Reads.Asked; Q = S.aside.Reads.Learnt }
 
-pub aside! : (w : World) (γ : Env) → γ Q.aside.Symbol.name ≡ Q.aside.Symbol.routine → Knows aside w γ
-aside! w γ e = Q.aside.Reads.known w γ Q.aside.Symbol.name Q.aside.Symbol.routine e (Q.aside.Met.met (w .𝓤) (w .H) (w .𝓜) (w .𝓖) (w .𝓡))
+pub aside! : (w : World) (γ : Env) → γ S.aside.Symbol.name ≡ S.aside.Symbol.routine → Knows aside w γ
+aside! w γ e = S.aside.Reads.known w γ S.aside.Symbol.name S.aside.Symbol.routine e (S.aside.Met.met (w .𝓤) (w .H) (w .𝓜) (w .𝓖) (w .𝓡))
 
 abbrev pub kind-of : Fun!
 kind-of = record { name = P.kind_of.Symbol.name; n = 0; ps = P.kind_of.Kinds.ps; r = P.kind_of.Kinds.r; P = P.kind_of.Reads.Asked; Q = P.kind_of.Reads.Learnt }

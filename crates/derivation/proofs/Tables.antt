@@ -31,10 +31,10 @@ use borrow.Table.Owned.{ShrSlice}
 use Rattle.alc.proofs.Claim as T
 use Rattle.alc.proofs.Answer as AT
 use Rattle.alc.proofs.Answer.Laws as AT′
-use Rattle.steps.proofs.State as ST
-use Rattle.steps.proofs.State.Laws as ST′
-use Rattle.steps.proofs.Act as CT
-use Rattle.steps.proofs.Act.Laws as CT′
+use Rattle.states.proofs.State as ST
+use Rattle.states.proofs.State.Laws as ST′
+use Rattle.states.proofs.Act as CT
+use Rattle.states.proofs.Act.Laws as CT′
 use Rattle.alc.specs.Claims.{Sided}
 use Rattle.alc.specs.Shown.{answered, tableOf, blank}
 use Rattle.alc.specs.Verdict.{Verdict}

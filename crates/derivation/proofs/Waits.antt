@@ -15,10 +15,11 @@ use Rattle.alc.specs.declared.Claim.{Claim as Record}
 use Rattle.alc.specs.declared.Goal.{Goal as Records}
 use Rattle.room.specs.Stored.{blanks, stored, fetched, goalOf}
 use Rattle.room.proofs.Back.{copied-else, copied-same, fetched-stored}
+use Rattle.states.specs.Standing.{tookOf, secondOf, After, Aside}
+use Rattle.states.specs.declared.State.{State}
+use Rattle.states.specs.declared.Act.{Act}
 use Rattle.steps.specs.Acting
-use Rattle.steps.specs.Acting.{tookOf, Ready, Current, from, secondOf, After, Aside, Acts, Leads}
-use Rattle.steps.specs.declared.State.{State}
-use Rattle.steps.specs.declared.Act.{Act}
+use Rattle.steps.specs.Acting.{Ready, from, Acts, Leads}
 use Rattle.derivation.specs.Waiting.{Waiting, Rest, Stands, Behind, Stepped}
 
 -- the goals below place k wait on in a room that is the same below it

@@ -11,8 +11,9 @@ use Rattle.alc.specs.Shown.{Shows, tableOf}
 use Rattle.alc.specs.Verdict.{Verdict}
 use Rattle.alc.specs.declared.Claim.{Claim as Record}
 use Rattle.room.specs.Stored.{fetched, goalOf}
-use Rattle.steps.specs.Acting.{Ready, Current, from, verdictIn}
-use Rattle.steps.specs.declared.State.{State}
+use Rattle.states.specs.Standing.{verdictIn}
+use Rattle.states.specs.declared.State.{State}
+use Rattle.steps.specs.Acting.{Ready, Current, from}
 
 -- the goals, the one put aside last first, are those that the room l shows, with these counts of claims
 unfoldable pub Waiting : List Record → List ℕ → List Goal → Type 0

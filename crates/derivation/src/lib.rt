@@ -2,8 +2,8 @@
 // value, and the functions here only do it to the room.
 use alc::Answer;
 use alc::Claim;
-use steps::Act;
-use steps::State;
+use states::Act;
+use states::State;
 ghost use mathlib.Core.Path.{_≡_};
 ghost use mathlib.Core.Bool.{not};
 ghost use mathlib.Core.List.{List};
@@ -13,7 +13,8 @@ ghost use lib.ListN.{length, replicate};
 ghost use Rattle.alc.specs.Claims.{Sided};
 ghost use Rattle.alc.specs.Shown.{answered, tableOf, blank};
 ghost use Rattle.alc.specs.Verdict.{Verdict};
-ghost use Rattle.steps.specs.Acting.{Ready, verdictIn};
+ghost use Rattle.states.specs.Standing.{verdictIn};
+ghost use Rattle.steps.specs.Acting.{Ready};
 ghost use Rattle.derivation.specs.Waiting.{Stands, Stepped};
 
 // What the act asks of the room.
@@ -78,16 +79,16 @@ fn step(
     let k = kind_of(a);
     // most lines ask nothing, and their state is returned where it is made, not copied
     if k == 0 {
-        return steps::after(s, a);
+        return states::after(s, a);
     }
-    let next = steps::after(s, a);
+    let next = states::after(s, a);
     if k == 1 {
-        room::store(room, base_of(a), steps::aside(next, a));
+        room::store(room, base_of(a), states::aside(next, a));
         return next;
     }
     if k == 2 {
         let goal = room::fetch(room, base_of(a), count_of(a));
-        return steps::took(next, goal);
+        return states::took(next, goal);
     }
     next
 }

@@ -12,7 +12,8 @@ use Rattle.alc.specs.Claims.{Sided}
 use Rattle.alc.specs.Shown.{answered, Shows, tableOf}
 use Rattle.alc.specs.declared.Goal.{Goal as Records}
 use Rattle.heading.specs.Parts.{Columns, inSteps}
-use Rattle.steps.specs.Acting.{begunOf, noCounts, Fits}
+use Rattle.states.specs.Standing.{begunOf, noCounts}
+use Rattle.steps.specs.Acting.{Fits}
 use Rattle.alc.specs.Verdict.{Verdict, refused, judge, begin, outerRows, verdict}
 use Rattle.alc.specs.declared.Answer.{Answer}
 use Rattle.opening.specs.Opened.{decidedOf, followingOf, Opens, Begins}

@@ -8,8 +8,8 @@ use Rattle.alc.specs.Claims.{Sided}
 use Rattle.alc.specs.Shown.{Shows, tableOf, answered}
 use Rattle.alc.specs.Verdict.{verdict}
 use Rattle.alc.specs.declared.Answer.{Answer}
+use Rattle.states.specs.declared.State.{State}
 use Rattle.steps.specs.Acting.{Ready, from}
-use Rattle.steps.specs.declared.State.{State}
 use Rattle.opening.specs.declared.Opening.{Opening}
 
 -- no derivation follows

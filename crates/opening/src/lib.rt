@@ -1,6 +1,6 @@
 // What stands before a derivation: a dossier's table and claims, read up to the first step; or its verdict, where none follows.
 use alc::Answer;
-use steps::State;
+use states::State;
 ghost use mathlib.Core.Path.{_≡_};
 ghost use Prim.Native.Nat.{_≤_};
 ghost use Rattle.steps.specs.Acting.{Fits};
@@ -28,7 +28,7 @@ fn decided(answer: Answer) -> Opening
         kinds: [0; 256],
         firsts: [0; 256],
         seconds: [0; 256],
-        state: steps::begun(goals::empty(), 0, 0),
+        state: states::begun(goals::empty(), 0, 0),
     }
 }
 
@@ -93,6 +93,6 @@ pub fn opened(text: &[u8], records: usize) -> Opening
         kinds,
         firsts,
         seconds,
-        steps::begun(claims, h.at, h.lines),
+        states::begun(claims, h.at, h.lines),
     )
 }

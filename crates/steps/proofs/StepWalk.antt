@@ -4,10 +4,9 @@ use Prim.Native.Nat.{ℕ, zero, suc, _+_, _-_, _*_, _≤_, _<_}
 use native.Mathlib.Omega.{arith}
 use native.Mathlib.Numerals.{add-one}
 use native.Mathlib.Decide.{ℕ-discrete}
-use mathlib.Core.Bool.{Bool, true, false, cond, false≢true}
+use mathlib.Core.Bool.{Bool, cond, false≢true}
 use mathlib.Core.List.{List, [], _∷_, _++_}
 use mathlib.Core.Path.{_≡_, refl, sym, ap, ap₂, subst, _∙_}
-use lib.Dec.{eqb}
 use lib.ListN.{length, getD, set, drop, length-set}
 use lib.Seq.{getD-set-same, getD-set-other}
 use borrow.Author.Tests.{lt-ltb, le-ltb, eq-eqb, ne-eqb}
@@ -29,13 +28,14 @@ use Rattle.alc.proofs.ShownLaws.{table-length}
 use Rattle.goals.specs.declared.Turn.{Turn}
 use Rattle.goals.specs.Records.{added, premiseAt, Makes, Leaves, none, one, two}
 use Rattle.goals.proofs.RecordLaws.{two-opens, comes-one}
-use Rattle.heading.specs.Parts.{inSteps, Columns}
+use Rattle.heading.specs.Parts.{inSteps}
 use Rattle.heading.proofs.Judging.{judge-end, judge-bad, judge-next, judge-refused}
+use Rattle.states.specs.Standing.{stateOf, stoppedOf, passedOf, partedOf, lastOf, takenOf, closedOf, afterOf, verdictOf, After}
+use Rattle.states.specs.declared.State.{State}
+use Rattle.states.specs.declared.Act.{Act}
 use Rattle.steps.specs.Turning.{stepIn, Turned}
 use Rattle.steps.specs.Acting
-use Rattle.steps.specs.Acting.{stoppedOf, passedOf, partedOf, lastOf, takenOf, closedOf, afterOf, verdictOf, Ready, Current, from, After, Acts, Leads, Acted}
-use Rattle.steps.specs.declared.State.{State}
-use Rattle.steps.specs.declared.Act.{Act}
+use Rattle.steps.specs.Acting.{Ready, Current, from, Acts, Leads, Acted}
 use Rattle.steps.proofs.StepLaws.{step-word, rows-5, rows-9, rows-turn, after-turn}
 
 refused-by : (k n : ℕ) → (k ≡ 0 → ⊥) → verdictOf k n ≡ refused k n
@@ -172,7 +172,7 @@ module _ (text ks xs ys : List ℕ) (entries : ℕ) (s : State) (v : Ready text 
 
           -- another goal, other counts and another count of open goals, behind the line
           again : (g : Records) (counts : List ℕ) (n : ℕ) → g .count ≤ 64 → length counts ≡ 16 → ((i : ℕ) → getD counts i 0 ≤ 64) → n ≤ 17
-              → Ready text ks xs ys entries (Acting.stateOf g counts n (s .steps + 1) (s .lines + 1) to (s .ended) (s .number))
+              → Ready text ks xs ys entries (stateOf g counts n (s .steps + 1) (s .lines + 1) to (s .ended) (s .number))
           again g counts n small slots sizes few = record {
             columns = v .columns;
             fits = v .fits;

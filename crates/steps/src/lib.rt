@@ -1,5 +1,5 @@
 // The steps of a derivation, read line by line: each works on the current goal and leaves its premises. The rules come from `turns`, the
-// lines from `reading`, and no byte is seen here.
+// lines from `reading`, the records from `states`, and no byte is seen here.
 use alc::Concept;
 use alc::Goal;
 use alc::Name;
@@ -8,19 +8,18 @@ use goals::Step;
 use goals::Turn;
 use lines::Line;
 use lines::Next;
+use states::Act;
+use states::State;
 ghost use mathlib.Core.Path.{_≡_};
-ghost use mathlib.Core.List.{List, [], _∷_};
+ghost use mathlib.Core.List.{List};
 ghost use Prim.Native.Nat.{_+_, _-_, _<_, _≤_, _%_};
-ghost use lib.ListN.{length};
-ghost use Rattle.lines.specs.Text.{linesOf};
 ghost use Rattle.alc.specs.Claims.{Sided};
 ghost use Rattle.alc.specs.Table.{entry, entryOf};
-ghost use Rattle.alc.specs.Shown.{kindAt, tableOf, records, Shows as ShowsGoal, answered};
+ghost use Rattle.alc.specs.Shown.{kindAt, tableOf, records, Shows as ShowsGoal};
 ghost use Rattle.goals.specs.Records.{Makes};
-ghost use Rattle.alc.specs.Verdict.{judge};
-ghost use Rattle.heading.specs.Parts.{Columns, inSteps};
+ghost use Rattle.heading.specs.Parts.{Columns};
 ghost use Rattle.steps.specs.Turning.{Turned};
-ghost use Rattle.steps.specs.Acting.{Fits, begunOf, idleOf, stoppedOf, passedOf, tookOf, partedOf, closedOf, Ready, After, Aside, Acted};
+ghost use Rattle.steps.specs.Acting.{Fits, Ready, Acted};
 
 // The entry of number i in a table of so many, and `top` past its end: the second field of `id-link` is a name, which no rule looks up.
 fn entry_at(kinds: &[u8], firsts: &[u8], seconds: &[u8], entries: usize, i: usize) -> Entry
@@ -85,183 +84,6 @@ fn turn_at(
     turns::turn_of(g, s, e, waiting)
 }
 
-// Where a derivation stands: the current goal, how many claims each goal that waits has, and how far the text is read.
-pub struct State {
-    // the current goal, where one is open
-    pub goal: Goal,
-    // the claims of each goal that waits, the one put aside first at 0
-    pub counts: [u8; 16],
-    // how many goals are open: the current one and those that wait
-    pub open: usize,
-    pub steps: usize,
-    pub lines: usize,
-    pub at: usize,
-    // whether the verdict is there: then `number` is 0 or that of the refusal, and `lines` is its line
-    pub ended: bool,
-    pub number: u8,
-}
-
-// What a line does: what it asks of the room, its turn at the current goal, and the numbers of the state behind it. Like a turn it holds no goal.
-pub struct Act {
-    // nothing is asked (0), or that the second premise, of `count` claims, is stored from `base` on (1), or that the goal of `count` claims there
-    // becomes the current one (2)
-    pub kind: u8,
-    pub base: usize,
-    pub count: u8,
-    pub turn: Turn,
-    pub open: usize,
-    pub steps: usize,
-    pub lines: usize,
-    pub at: usize,
-    pub ended: bool,
-    pub number: u8,
-}
-
-// The state at the first step: the claims of the file are the only goal.
-pub fn begun(claims: Goal, at: usize, lines: usize) -> State
-    ensures { λ r. ⌜ r ≡ begunOf claims at lines ⌝ }
-{
-    State {
-        goal: claims,
-        counts: [0; 16],
-        open: 1,
-        steps: 0,
-        lines: lines,
-        at: at,
-        ended: false,
-        number: 0,
-    }
-}
-
-// The turn that leaves a goal of n claims as it is.
-fn idle(n: usize) -> Turn
-    ensures { λ r. ⌜ r ≡ idleOf n ⌝ }
-{
-    let none = alc::is(0, Name(0), Concept(0));
-    Turn {
-        number: 0,
-        opens: 0,
-        at: n,
-        kept: n,
-        leaves: 0,
-        first: none,
-        second: none,
-    }
-}
-
-// The verdict is there, with its number and line.
-fn stopped(s: State, number: u8, line: usize) -> Act
-    ensures { λ r. ⌜ r ≡ stoppedOf s number line ⌝ }
-{
-    Act {
-        kind: 0,
-        base: 0,
-        count: 0,
-        turn: idle(s.goal.count),
-        open: s.open,
-        steps: s.steps,
-        lines: line,
-        at: s.at,
-        ended: true,
-        number: number,
-    }
-}
-
-// The line is a step that passes, with its turn, and the text is read up to behind it: what it asks of the room, and how many goals are open.
-fn passed(
-    s: State,
-    t: Turn,
-    line: usize,
-    at: usize,
-    kind: u8,
-    base: usize,
-    count: u8,
-    open: usize,
-) -> Act
-    requires { ⌜ s .steps < 1024 ⌝ }
-    ensures { λ r. ⌜ r ≡ passedOf s t line at kind base count «open» ⌝ }
-{
-    Act {
-        kind: kind,
-        base: base,
-        count: count,
-        turn: t,
-        open: open,
-        steps: s.steps + 1,
-        lines: line,
-        at: at,
-        ended: s.ended,
-        number: s.number,
-    }
-}
-
-// Two premises: the first becomes the current goal, and the second waits.
-fn parted(s: State, t: Turn, line: usize, at: usize) -> Act
-    requires { ⌜ (0 < s .open) × (s .open ≤ 16) × (s .steps < 1024) × (t .kept ≤ 64) ⌝ }
-    ensures { λ r. ⌜ r ≡ partedOf s t line at ⌝ }
-{
-    let waiting = s.open - 1;
-    let count = (t.kept + 1) as u8;
-    passed(s, t, line, at, 1, waiting * 64, count, s.open + 1)
-}
-
-// The goal closes: the one put aside last becomes current, where one waits.
-fn closed(s: State, t: Turn, line: usize, at: usize) -> Act
-    requires { ⌜ (0 < s .open) × (s .open ≤ 17) × (s .steps < 1024) ⌝ }
-    ensures { λ r. ⌜ r ≡ closedOf s t line at ⌝ }
-{
-    let waiting = s.open - 1;
-    if waiting == 0 {
-        return passed(s, t, line, at, 0, 0, 0, waiting);
-    }
-    let last = waiting - 1;
-    let counts = s.counts;
-    passed(s, t, line, at, 2, last * 64, counts[last], waiting)
-}
-
-// The state behind an act at the state s: the turn's first premise is the current goal, and where a second waits its place has its count.
-pub fn after(s: State, a: Act) -> State
-    requires { ⌜ (s .goal .count ≤ 64) × Makes (a .turn) (s .goal) × (a .kind ≡ 1 → (0 < s .open) × (s .open ≤ 16)) ⌝ }
-    ensures { λ r. ⌜ After s a r ⌝ }
-{
-    let goal = s.goal;
-    let turn = a.turn;
-    let mut counts = s.counts;
-    if a.kind == 1 {
-        let waiting = s.open - 1;
-        counts[waiting] = a.count;
-    }
-    State {
-        goal: turns::premise(goal, turn),
-        counts: counts,
-        open: a.open,
-        steps: a.steps,
-        lines: a.lines,
-        at: a.at,
-        ended: a.ended,
-        number: a.number,
-    }
-}
-
-// The second premise, where the state n behind the act a has the first.
-pub fn aside(n: State, a: Act) -> Goal
-    requires { ⌜ (0 < n .goal .count) × (n .goal .count ≤ 64) ⌝ }
-    ensures { λ r. ⌜ Aside n a r ⌝ }
-{
-    let goal = n.goal;
-    let turn = a.turn;
-    turns::other(goal, turn)
-}
-
-// The state with another current goal.
-pub fn took(s: State, goal: Goal) -> State
-    ensures { λ r. ⌜ r ≡ tookOf s goal ⌝ }
-{
-    let mut next = s;
-    next.goal = goal;
-    next
-}
-
 // What the next line does at the state s.
 pub fn act_at(
     text: &[u8],
@@ -278,34 +100,34 @@ pub fn act_at(
     match reading::read(text, s.at, 2) {
         Next::Found(l, next) => {
             if s.steps >= 1024 {
-                return stopped(s, 5, line);
+                return states::stopped(s, 5, line);
             }
             if s.open == 0 {
-                return stopped(s, 9, line);
+                return states::stopped(s, 9, line);
             }
             let goal = s.goal;
             let t = turn_at(kinds, firsts, seconds, entries, l, goal, s.open - 1);
             let k = t.number;
             if k != 0 {
-                return stopped(s, k, line);
+                return states::stopped(s, k, line);
             }
             if t.opens == 0 {
-                return closed(s, t, line, next);
+                return states::closed(s, t, line, next);
             }
             if t.opens == 1 {
-                return passed(s, t, line, next, 0, 0, 0, s.open);
+                return states::passed(s, t, line, next, 0, 0, 0, s.open);
             }
-            return parted(s, t, line, next);
+            return states::parted(s, t, line, next);
         }
         Next::Bad => {
-            return stopped(s, 2, line);
+            return states::stopped(s, 2, line);
         }
         Next::End => {
             if s.open > 0 {
-                return stopped(s, 12, line);
+                return states::stopped(s, 12, line);
             }
             let n = s.lines;
-            return stopped(s, 0, n);
+            return states::stopped(s, 0, n);
         }
     }
 }

@@ -7,8 +7,8 @@ use Rattle.alc.specs.Shown.{answered, tableOf}
 use Rattle.alc.specs.Verdict.{Verdict, verdict}
 use Rattle.alc.specs.declared.Claim.{Claim as Record}
 use Rattle.alc.specs.declared.Answer.{Answer}
+use Rattle.states.specs.declared.State.{State}
 use Rattle.steps.specs.Acting.{Ready}
-use Rattle.steps.specs.declared.State.{State}
 use Rattle.derivation.specs.Waiting.{Waiting, Stands}
 use Rattle.opening.specs.Opened.{Begins}
 use Rattle.opening.specs.declared.Opening.{Opening}

@@ -21,7 +21,6 @@ use borrow.Table.Row.{lft}
 use borrow.Table.Rows.{whole, sslice}
 use borrow.Table.Owned.{ShrSlice}
 use Rattle.alc.proofs.Claim as T
-use Rattle.steps.proofs.State as ST
 use Rattle.alc.specs.Shown.{answered, blank}
 use Rattle.alc.specs.Verdict.{verdict}
 use Rattle.room.proofs.Says.{Con}

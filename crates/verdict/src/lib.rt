@@ -2,7 +2,7 @@
 use alc::Answer;
 use alc::Claim;
 use opening::Opening;
-use steps::State;
+use states::State;
 ghost use mathlib.Core.Path.{_≡_};
 ghost use lib.ListN.{length, replicate};
 ghost use Rattle.alc.specs.Shown.{answered, blank};

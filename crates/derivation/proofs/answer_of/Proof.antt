@@ -4,7 +4,7 @@ use mathlib.Core.Path.{_≡_, refl, sym, ap, _∙_}
 use borrow.Author.Needs.{needs}
 use borrow.Author.Tests.{eqb-true, eqb-false}
 use Rattle.alc.specs.Verdict.{proved, refused}
-use Rattle.steps.specs.Acting.{verdictOf}
+use Rattle.states.specs.Standing.{verdictOf}
 use Rattle.derivation.proofs.answer_of.Statement.{statement}
 use Rattle.derivation.proofs.answer_of.Tie as tie
 

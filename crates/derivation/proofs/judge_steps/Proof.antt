@@ -20,7 +20,7 @@ use Rattle.room.proofs.Claims as RC
 use Rattle.room.proofs.Claims.{claim}
 use Rattle.alc.specs.Shown.{blank}
 use Rattle.alc.specs.declared.Claim.{Claim}
-use Rattle.steps.specs.declared.State.{State}
+use Rattle.states.specs.declared.State.{State}
 use Rattle.derivation.proofs as P
 use Rattle.derivation.proofs.Covered as F
 use Rattle.derivation.proofs.Tables as C

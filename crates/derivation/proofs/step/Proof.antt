@@ -20,9 +20,10 @@ use Rattle.room.proofs.Claims.{claim, num}
 use Rattle.room.specs.Stored.{stored, fetched, goalOf}
 use Rattle.alc.specs.declared.Claim.{Claim}
 use Rattle.alc.specs.declared.Goal.{Goal}
-use Rattle.steps.specs.Acting.{tookOf, Ready, After, Aside, Leads, Acted}
-use Rattle.steps.specs.declared.State.{State}
-use Rattle.steps.specs.declared.Act.{Act}
+use Rattle.states.specs.Standing.{tookOf, After, Aside}
+use Rattle.states.specs.declared.State.{State}
+use Rattle.states.specs.declared.Act.{Act}
+use Rattle.steps.specs.Acting.{Ready, Leads, Acted}
 use Rattle.derivation.specs.Waiting.{Stepped}
 use Rattle.derivation.proofs.Covered as F
 use Rattle.derivation.proofs.Tables as C
@@ -175,9 +176,9 @@ step-spec 𝓤 H 𝓜 𝓖 𝓡 =
     let fetch = knows RC.fetch w code.env R.fetch.Symbol.routine code.calls-room·fetch (R.fetch.Met.met 𝓤 H 𝓜 𝓖 𝓡) in
     let act-at = F.act-at! w code.env code.calls-steps·act-at in
     let kind-of = F.kind-of! w code.env code.calls-derivation·kind-of in
-    let after = F.after! w code.env code.calls-steps·after in
+    let after = F.after! w code.env code.calls-states·after in
     let base-of = F.base-of! w code.env code.calls-derivation·base-of in
-    let aside = F.aside! w code.env code.calls-steps·aside in
+    let aside = F.aside! w code.env code.calls-states·aside in
     let count-of = F.count-of! w code.env code.calls-derivation·count-of in
-    let took = F.took! w code.env code.calls-steps·took in
+    let took = F.took! w code.env code.calls-states·took in
     proved C.step 1 code.function w code.env name (code.unfolded 𝓤 H 𝓜 𝓡) (body w store fetch act-at kind-of after base-of aside count-of took) (met w store fetch act-at kind-of after base-of aside count-of took)

@@ -2,17 +2,15 @@
 use Prim.Native.Nat.{ℕ, _+_, _-_, _≤_, _<_}
 use native.Mathlib.Omega.{arith}
 use mathlib.Core.List.{List, []}
-use mathlib.Core.Path.{_≡_, refl, sym, ap, subst, _∙_}
-use lib.ListN.{length, drop}
+use mathlib.Core.Path.{_≡_, sym, subst, _∙_}
+use lib.ListN.{drop}
 use denote.Ref.{now}
 use borrow.Author.Needs.{needs}
 use Rattle.lines.specs.Text.{linesOf}
 use Rattle.reading.proofs.Loop.{Line-found, when-found, when-bad, when-end}
-use Rattle.alc.specs.declared.Goal.{Goal as Records}
 use Rattle.goals.specs.Records.{Makes}
-use Rattle.steps.specs.Acting.{Acted, Ready}
-use Rattle.steps.specs.declared.State.{State}
-use Rattle.steps.specs.declared.Act.{Act}
+use Rattle.states.specs.declared.Act.{Act}
+use Rattle.steps.specs.Acting.{Acted}
 use Rattle.steps.proofs.StepWalk.{word, stops-5, stops-9, stops-turn, stops-bad, stops-open, stops-proved, goes-one, goes-two, goes-none}
 use Rattle.steps.proofs.act_at.Statement.{statement}
 use Rattle.steps.proofs.act_at.Tie as tie

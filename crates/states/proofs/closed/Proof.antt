@@ -1,15 +1,15 @@
--- `steps::closed` meets its contract: whether a goal waits is the definition's own test. Assumes nothing.
-use Prim.Native.Nat.{ℕ, _-_}
+-- `states::closed` meets its contract: whether a goal waits is the definition's own test. Assumes nothing.
+use Prim.Native.Nat.{ℕ}
 use mathlib.Core.Bool.{Bool, cond}
-use mathlib.Core.Path.{_≡_, sym, ap, _∙_}
+use mathlib.Core.Path.{sym, ap, _∙_}
 use borrow.Author.Needs.{needs}
 use borrow.Author.Tests.{eq-eqb, ne-eqb}
 use Rattle.goals.specs.declared.Turn.{Turn}
-use Rattle.steps.specs.Acting.{lastOf, takenOf}
-use Rattle.steps.specs.declared.State.{State}
-use Rattle.steps.specs.declared.Act.{Act}
-use Rattle.steps.proofs.closed.Statement.{statement}
-use Rattle.steps.proofs.closed.Tie as tie
+use Rattle.states.specs.Standing.{lastOf, takenOf}
+use Rattle.states.specs.declared.State.{State}
+use Rattle.states.specs.declared.Act.{Act}
+use Rattle.states.proofs.closed.Statement.{statement}
+use Rattle.states.proofs.closed.Tie as tie
 
 -- the act by the answer of the test
 abbrev by : State → Turn → ℕ → ℕ → Bool → Act

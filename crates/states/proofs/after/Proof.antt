@@ -1,4 +1,4 @@
--- `steps::after` meets its contract: the goal is what `turns::premise` makes, and the rest is written out as the definition has it. Assumes nothing.
+-- `states::after` meets its contract: the goal is what `turns::premise` makes, and the rest is written out as the definition has it. Assumes nothing.
 use Prim.Native.Nat.{ℕ, _-_, _≤_, _<_}
 use mathlib.Core.Bool.{Bool, cond}
 use mathlib.Core.List.{List}
@@ -9,11 +9,11 @@ use lib.ListN.{set}
 use borrow.Author.Needs.{needs}
 use borrow.Author.Tests.{eq-eqb, ne-eqb}
 use Rattle.alc.specs.declared.Goal.{Goal as Records}
-use Rattle.steps.specs.Acting.{stateOf}
-use Rattle.steps.specs.declared.State.{State}
-use Rattle.steps.specs.declared.Act.{Act}
-use Rattle.steps.proofs.after.Statement.{statement}
-use Rattle.steps.proofs.after.Tie as tie
+use Rattle.states.specs.Standing.{stateOf}
+use Rattle.states.specs.declared.State.{State}
+use Rattle.states.specs.declared.Act.{Act}
+use Rattle.states.proofs.after.Statement.{statement}
+use Rattle.states.proofs.after.Tie as tie
 
 -- one goal is put aside, so there is a place for it
 some : (c : tie.Then1) → (0 < c .before .before .before .before .before .args .s .open) × (c .before .before .before .before .before .args .s .open ≤ 16)

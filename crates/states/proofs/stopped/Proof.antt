@@ -1,13 +1,13 @@
--- `steps::stopped` meets its contract: it is the definition's record, with a turn that is made by a function. Assumes nothing.
+-- `states::stopped` meets its contract: it is the definition's record, with a turn that is made by a function. Assumes nothing.
 use Prim.Native.Nat.{ℕ}
 use mathlib.Core.Bool.{true}
 use mathlib.Core.Path.{ap}
 use borrow.Author.Needs.{needs}
 use Rattle.goals.specs.declared.Turn.{Turn}
-use Rattle.steps.specs.declared.State.{State}
-use Rattle.steps.specs.declared.Act.{Act}
-use Rattle.steps.proofs.stopped.Statement.{statement}
-use Rattle.steps.proofs.stopped.Tie as tie
+use Rattle.states.specs.declared.State.{State}
+use Rattle.states.specs.declared.Act.{Act}
+use Rattle.states.proofs.stopped.Statement.{statement}
+use Rattle.states.proofs.stopped.Tie as tie
 
 abbrev by : State → ℕ → ℕ → Turn → Act
 by s k line t = record { kind = 0; base = 0; count = 0; turn = t; «open» = s .open; steps = s .steps; lines = line; at = s .at; ended = true; number = k }
