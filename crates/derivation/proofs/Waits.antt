@@ -1,6 +1,6 @@
 -- One line's act over the room: a goal that is stored in the next place leaves those below as they are and comes back as it was, and what is
 -- fetched is the goal that was put aside last. So the derivation stands behind the line as the judge does. Assumes nothing.
-use Prim.Native.Nat.{ℕ, zero, suc, _+_, _-_, _*_, _≤_, _<_}
+use Prim.Native.Nat.{ℕ, suc, _+_, _-_, _*_, _≤_, _<_}
 use native.Mathlib.Omega.{arith}
 use mathlib.Core.Bool.{Bool, true, false, cond, false≢true}
 use mathlib.Core.List.{List, [], _∷_, map}

@@ -1,7 +1,6 @@
 -- The bounds of the numbers of a line: a number is in the range of its letter if it is below that letter's bound, so the three bounds of a
 -- word say what its three letters say. Assumes nothing.
 use Prim.Native.Nat.{ℕ, _≤_, _<_}
-use native.Mathlib.Omega.{arith}
 use mathlib.Core.Bool.{Bool, true, false, cond, _&&_, _||_}
 use mathlib.Core.List.{List, [], _∷_}
 use mathlib.Core.Path.{_≡_, refl, sym, _∙_}

@@ -8,7 +8,7 @@ use native.Mathlib.Numerals.{add-one}
 use lib.ListN.{length, getD, take}
 use lib.Seq.{take-suc}
 use borrow.Author.Tests.{lt-ltb, le-ltb}
-use Rattle.report.specs.Printed.{digits, columns}
+use Rattle.report.specs.Printed.{digits}
 
 -- no digit is enough for nothing
 pub digits-none : (k n : ℕ) → k ≡ 0 → digits k n ≡ []

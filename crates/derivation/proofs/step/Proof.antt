@@ -1,6 +1,6 @@
 -- `derivation::step` meets its contract: what the act asks of the room is within it, and what is done to the room is one of the three laws of
 -- Waits. Assumes nothing.
-use mathlib.Core.Path.{_≡_, refl, sym, ap, subst, _∙_}
+use mathlib.Core.Path.{_≡_, refl, sym, subst, _∙_}
 use mathlib.Core.List.{List, [], _∷_}
 use Prim.Native.Nat.{ℕ, _<_, _≤_, _+_}
 use native.Mathlib.Omega.{arith}

@@ -1,6 +1,5 @@
 -- `heading::below` meets its contract, by its three tests. Assumes nothing.
 use mathlib.Core.Path.{sym}
-use mathlib.Core.Bool.{and-false}
 use borrow.Author.Needs.{needs}
 use borrow.Author.Tests.{le-ltb, lt-ltb}
 use Rattle.heading.proofs.below.Statement.{statement}

@@ -1,5 +1,4 @@
 -- `heading::ranged` meets its contract: the words of each part of a dossier stand together, and each part has its function. Assumes nothing.
-use native.Mathlib.Omega.{arith}
 use borrow.Author.Needs.{needs}
 use Rattle.heading.proofs.ranged.Statement.{statement}
 use Rattle.heading.proofs.ranged.Tie as tie

@@ -1,5 +1,5 @@
 -- `judge::main` meets its contract: the part of the buffer that is judged has as many bytes as were read. Assumes nothing.
-use mathlib.Core.Path.{_≡_, sym}
+use mathlib.Core.Path.{sym}
 use lib.Seq.{length-take-le}
 use borrow.Author.Needs.{needs}
 use Rattle.judge.proofs.main.Statement.{statement}

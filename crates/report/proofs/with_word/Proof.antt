@@ -1,7 +1,7 @@
 -- `report::with_word` meets its contract. The invariant: what is held is what was held and the bytes before i. The measure is what is
 -- left of the word. Assumes nothing.
 use Prim.Native.Nat.{_+_, _-_, _≤_}
-use mathlib.Core.Path.{_≡_, refl, sym, ap, _∙_}
+use mathlib.Core.Path.{_≡_, sym, ap, _∙_}
 use mathlib.Core.List.{_++_, append-nil}
 use native.Mathlib.Omega.{arith}
 use denote.Ref.{now}

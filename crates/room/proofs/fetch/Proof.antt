@@ -1,7 +1,6 @@
 -- `room::fetch` meets its contract: the room's records are copied into a goal's own, which are blank at first. Assumes nothing.
-use mathlib.Core.Path.{_≡_, refl, sym, ap, _∙_}
+use mathlib.Core.Path.{refl, sym, ap, _∙_}
 use mathlib.Core.List.{List, [], _∷_}
-use Prim.Native.Nat.{ℕ, _≤_, _+_}
 use native.Mathlib.Omega.{arith}
 use lib.Dec.{lit<}
 use lib.ListN.{length, replicate, length-replicate}
@@ -25,8 +24,7 @@ use Rattle.room.proofs.fetch.Key.{name}
 use Rattle.room.proofs.fetch.Statement.{statement}
 use Rattle.room.proofs.fetch.Code as code
 use Rattle.alc.specs.declared.Claim.{Claim}
-use Rattle.alc.specs.declared.Goal.{Goal}
-use Rattle.room.specs.Stored.{copied, fetched, goalOf}
+use Rattle.room.specs.Stored.{copied, goalOf}
 
 module _ (w : World) (copy : Knows (fun C.copy) w code.env) (blank-claim : Knows F.blank-claim w code.env) (goal-of : Knows F.goal-of w code.env) where
   unfoldable body : Body! C.fetch 1 code.function w code.env

@@ -1,10 +1,9 @@
 -- `room::store` meets its contract: what is copied into the room is the goal's records, from the first on. Assumes nothing.
-use mathlib.Core.Path.{_≡_, refl, sym, ap, ap₂, _∙_}
+use mathlib.Core.Path.{refl, sym, ap, ap₂, _∙_}
 use mathlib.Core.List.{List, [], _∷_}
-use Prim.Native.Nat.{ℕ, _≤_, _+_}
+use Prim.Native.Nat.{ℕ}
 use native.Mathlib.Omega.{arith}
 use lib.Dec.{lit<}
-use lib.ListN.{length}
 use mir.Syntax.{w64, named, erased}
 use mir.Val.{vint}
 use contract.Running.{tablesOf}
@@ -22,7 +21,6 @@ use Rattle.room.proofs.store.Key.{name}
 use Rattle.room.proofs.store.Statement.{statement}
 use Rattle.room.proofs.store.Code as code
 use Rattle.alc.specs.declared.Claim.{Claim}
-use Rattle.alc.specs.declared.Goal.{Goal}
 use Rattle.room.specs.Stored.{stored}
 
 module _ (w : World) (copy : Knows (fun C.copy) w code.env) (claims-of : Knows F.claims-of w code.env) (count-of : Knows F.count-of w code.env) where

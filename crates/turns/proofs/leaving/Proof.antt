@@ -1,6 +1,6 @@
 -- `turns::leaving` meets its contract: without the record where the first claim needed is first found is without its first copy, and without
 -- the record behind the last is all of them. Assumes nothing.
-use mathlib.Core.Path.{_≡_, ap, _∙_}
+use mathlib.Core.Path.{ap, _∙_}
 use Prim.Native.Nat.{ℕ}
 use native.Mathlib.Omega.{arith}
 use Rattle.goals.specs.Records.{cutAt}

@@ -1,13 +1,11 @@
 -- `turns::needed` meets its contract: none, the first, or both of the plan's claims are looked for, and the first is there exactly if it is found
 -- before the goal's end. Assumes nothing.
-use Prim.Native.Nat.{ℕ, _≤_, _<_}
-use mathlib.Core.Bool.{true, false}
+use Prim.Native.Nat.{ℕ}
 use mathlib.Core.Path.{_≡_, sym, ap, ap₂, _∙_}
-use native.Mathlib.Omega.{arith}
 use lib.Dec.{ltb}
 use borrow.Author.Needs.{needs}
 use borrow.Author.Tests.{lt-ltb, le-ltb}
-use Rattle.alc.specs.Lists.{any, firstAt}
+use Rattle.alc.specs.Lists.{any}
 use Rattle.alc.specs.Shown.{records}
 use Rattle.goals.specs.Records.{sameRecord}
 use Rattle.goals.proofs.RecordLaws.{any-first, records-length, every-no, every-one, every-two}

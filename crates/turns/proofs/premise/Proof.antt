@@ -1,7 +1,7 @@
 -- `turns::premise` meets its contract. The invariant: the records behind the one that goes are moved up, as far as i. The measure is what is left
 -- of them. Behind the loop what comes is written where there is room. Assumes nothing.
-use Prim.Native.Nat.{ℕ, _+_, _-_, _≤_, _<_}
-use mathlib.Core.Path.{_≡_, refl}
+use Prim.Native.Nat.{_+_, _-_, _≤_, _<_}
+use mathlib.Core.Path.{_≡_}
 use native.Mathlib.Omega.{arith}
 use lib.ListN.{length}
 use borrow.Author.Needs.{needs}

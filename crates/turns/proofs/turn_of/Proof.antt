@@ -1,18 +1,15 @@
 -- `turns::turn_of` meets its contract: the rows at the records are those at the claims, and so are the premises. Assumes nothing.
-use Prim.Native.Nat.{ℕ, _+_, _-_, _≤_, _<_}
-use mathlib.Core.Bool.{true}
-use mathlib.Core.List.{List, _++_}
+use Prim.Native.Nat.{ℕ, _+_, _-_}
 use mathlib.Core.Path.{_≡_, sym, ap, subst, _∙_}
 use native.Mathlib.Omega.{arith}
 use lib.ListN.{length}
 use borrow.Author.Needs.{needs}
 use Rattle.alc.specs.Table.{Kind, Table, Entry, entry, entryOf}
-use Rattle.alc.specs.Claims.{Sided}
 use Rattle.alc.specs.Rows.{refusal}
 use Rattle.alc.specs.Rules.{plan}
 use Rattle.alc.specs.Goals.{premises}
-use Rattle.alc.specs.Shown.{kindAt, Shows, records}
-use Rattle.goals.specs.Records.{sameRecord, stepOf, added, keeping, upTo, cutAt, recordRows, Plans, Makes, Turns}
+use Rattle.alc.specs.Shown.{kindAt, records}
+use Rattle.goals.specs.Records.{sameRecord, stepOf, keeping, upTo, cutAt, recordRows, Plans}
 use Rattle.goals.proofs.RecordLaws.{few-open, first-most, cut-length, records-length}
 use Rattle.goals.proofs.Steps.{held-rows, held-premise, open-shown, all-small, all-open, leaves-of}
 use Rattle.turns.proofs.turn_of.Statement.{statement}
