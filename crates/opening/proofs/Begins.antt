@@ -1,4 +1,5 @@
--- The rows before the first line: the length of the room decides first, then that of the text. Assumes nothing.
+-- What stands before a derivation. Of the rows before the first line the length of the room decides first, then that of the text; and an opening is
+-- what its two forms say, since one is decided and the other begins with the claims as the only goal. Assumes nothing.
 use Prim.Native.Nat.{ℕ, zero, suc, _≤_, _<_}
 use mathlib.Core.Bool.{false, true, false≢true}
 use mathlib.Core.List.{List, [], _∷_}

@@ -1,4 +1,4 @@
--- `claims::side_of` meets its contract. Assumes nothing.
+-- `claims::side_of` meets its contract, by its test. Assumes nothing.
 use borrow.Author.Tests.{eq-eqb, ne-eqb}
 use Rattle.claims.proofs.side_of.Statement.{statement}
 use Rattle.claims.proofs.side_of.Tie as tie

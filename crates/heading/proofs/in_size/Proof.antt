@@ -1,4 +1,4 @@
--- `heading::in_size` meets its contract. Assumes nothing.
+-- `heading::in_size` meets its contract, by its two tests. Assumes nothing.
 use mathlib.Core.Path.{sym}
 use borrow.Author.Tests.{lt-leb, le-leb}
 use Rattle.heading.proofs.in_size.Statement.{statement}
