@@ -25,10 +25,6 @@ pub or-false : (a b : Bool) → (a || b) ≡ false → (a ≡ false) × (b ≡ f
 or-false true b e = absurd (true≢false e)
 or-false false b e = (refl, e)
 
-pub or-right : (a b : Bool) → b ≡ true → (a || b) ≡ true
-or-right true b e = refl
-or-right false b e = e
-
 -- "if a then b", as `all` and `sub` write it
 pub if-true : (a b : Bool) → (not a || b) ≡ true → a ≡ true → b ≡ true
 if-true true b e h = e
@@ -40,11 +36,6 @@ if-false false b e = absurd (true≢false e)
 
 pub clash : (b : Bool) → b ≡ true → b ≡ false → ⊥
 clash b t f = true≢false (sym t ∙ f)
-
--- a test that would say otherwise is false
-pub is-false : (b : Bool) → (b ≡ true → ⊥) → b ≡ false
-is-false true f = absurd (f refl)
-is-false false f = refl
 
 pub below-suc : (n e : ℕ) → e < suc n → (e ≡ n) ⊎ (e < n)
 below-suc n e l = go (ℕ-discrete e n)

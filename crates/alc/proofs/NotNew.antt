@@ -42,7 +42,7 @@ use Rattle.alc.specs.Known.{text}
 use Rattle.alc.specs.Reading.{InRange, ReadsProof, ReadsModel, ReadsUpTo, lineOf}
 use Rattle.alc.specs.Refusal.{AllPassed, First, here, later, said, BadLine, at-line}
 use Rattle.alc.specs.Slide.{_∋_, _∉_, Is}
-use Rattle.alc.proofs.Logic.{is-false}
+use Rattle.lines.proofs.Laws.{is-false}
 use Rattle.alc.proofs.Slides.{unnamed}
 use Rattle.alc.proofs.Places.{fits, at-place}
 use Rattle.alc.proofs.Runs.{run-passes, proof-run, Run}

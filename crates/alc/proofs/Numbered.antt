@@ -15,7 +15,8 @@ use Rattle.alc.specs.Lists.{All}
 use Rattle.alc.specs.Table.{Table, Entry, Kind-discrete, entry, entryOf, sameEntry, stands, entryFields}
 use Rattle.alc.specs.Table as Table
 use Rattle.alc.specs.Reading.{InTurn, InRange, GoodTable}
-use Rattle.alc.proofs.Logic.{and-true, clash, is-false}
+use Rattle.lines.proofs.Laws.{is-false}
+use Rattle.alc.proofs.Logic.{and-true, clash}
 use Rattle.alc.proofs.ListFacts.{any-All, All-none}
 
 module _ {A : Type 0} (d : A) where

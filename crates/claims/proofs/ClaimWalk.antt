@@ -80,12 +80,6 @@ module _ (text : List ℕ) (T : Table) (begun : ℕ) where
       pub word-low : 8 ≤ l .word
       word-low = stands-among l t (f .allowed) .0
 
-      pub word-high : l .word ≤ 12
-      word-high = stands-among l t (f .allowed) .1
-
-      pub word-known : l .word < wordCount
-      word-known = t .known
-
       -- `proof`, `model`
       turned : (s : Said) → saying l ≡ s → refusal (rows (inClaims T (v .cs)) s) ≡ 0
           → judge (length T) (inClaims T []) (linesOf (drop begun text)) ≡ judge (suc n) (after (inClaims T (v .cs)) s) (linesOf (drop to text))

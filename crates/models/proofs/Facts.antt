@@ -4,7 +4,7 @@
 use Prim.Native.Nat.{ℕ, _*_, _+_, _<_}
 use native.Mathlib.Decide.{ℕ-discrete}
 use mathlib.Core.Bool.{Bool, true, false, not, cond, decide, _&&_, _||_, false≢true}
-use mathlib.Core.List.{List, [], _∷_, _++_, map, append-assoc}
+use mathlib.Core.List.{List, [], _∷_, _++_, append-assoc}
 use mathlib.Core.Path.{_≡_, refl, sym, ap, ap₂, subst, _∙_, fun-ext}
 use lib.Dec.{eqb, ltb}
 use lib.ListN.{getD, replicate}
@@ -12,11 +12,9 @@ use borrow.Author.Tests.{eq-eqb, ne-eqb, eqb-true}
 use Rattle.alc.specs.Lists.{All, any, every, isEmpty}
 use Rattle.alc.specs.Meaning.{World}
 use Rattle.alc.specs.Claims.{Sided, claim, names}
-use Rattle.alc.specs.Shown.{sidedOf, records}
-use Rattle.alc.specs.declared.Goal.{Goal as Records}
 use Rattle.alc.specs.Model.{Fact, Fact-discrete, places, has, edge, isSaid, placesOf, placesIn, repeats, interpOf, allPlaced}
-use Rattle.sets.specs.Bit.{bit, Sized}
-use Rattle.models.specs.Shown.{atomIn, edgeIn, seats, seatsOf, interpShown, allSeated, withAtom, withEdge, PlaceSet, AtomSet, EdgeSet, Tabled, Claimed, Ready}
+use Rattle.sets.specs.Bit.{bit}
+use Rattle.models.specs.Shown.{atomIn, edgeIn, seats, seatsOf, interpShown, allSeated, withAtom, withEdge, PlaceSet, AtomSet, EdgeSet}
 use Rattle.models.specs.Told.{Tells}
 use Rattle.sets.proofs.Bools.{and-off, and-true, or-none}
 use Rattle.sets.proofs.BitLaws.{zeros, bit-zero}
@@ -118,15 +116,6 @@ module _ (n : ℕ) (fs : List Fact) (ps ats es : List ℕ) (t : Tells n fs ps at
   -- every name in the claims is placed by the facts
   pub told-placed : (cs : List Sided) → allSeated ps cs ≡ allPlaced fs cs
   told-placed cs = ap (λ (S : ℕ → List ℕ). every (λ s. every (λ a. not (isEmpty (S a))) (names (claim s))) cs) (fun-ext (t .seats))
-
-  -- so that where they are, the claims can be judged
-  pub told-ready : (ks xs ys : List ℕ) (m : ℕ) (g : Records) → Tabled ks xs ys m → Sized n → Claimed m g → allPlaced fs (map sidedOf (records g)) ≡ true → Ready ks xs ys m n ps g
-  told-ready ks xs ys m g table sized claims all = record {
-    table = table;
-    sized = sized;
-    claims = claims;
-    seats = record { placed = told-placed (map sidedOf (records g)) ∙ all; inside = t .inside };
-  }
 
   -- `has A d`: the answer says whether it repeats nothing, and the arrays tell it besides
   pub atom-answer : (new : List ℕ) (A d : ℕ) (r : Bool) → AtomSet ats new A d r → r ≡ not (repeats fs (has A d))
