@@ -13,11 +13,11 @@ act-at = record { name = Q.act_at.Symbol.name; n = 4; ps = Q.act_at.Kinds.ps; r 
 pub act-at! : (w : World) (γ : Env) → γ Q.act_at.Symbol.name ≡ Q.act_at.Symbol.routine → Knows act-at w γ
 act-at! w γ e = Q.act_at.Reads.known w γ Q.act_at.Symbol.name Q.act_at.Symbol.routine e (Q.act_at.Met.met (w .𝓤) (w .H) (w .𝓜) (w .𝓖) (w .𝓡))
 
-abbrev pub took : Fun!
-took = record { name = S.took.Symbol.name; n = 0; ps = S.took.Kinds.ps; r = S.took.Kinds.r; P = S.took.Reads.Asked; Q = S.took.Reads.Learnt }
+abbrev pub behind : Fun!
+behind = record { name = S.behind.Symbol.name; n = 0; ps = S.behind.Kinds.ps; r = S.behind.Kinds.r; P = S.behind.Reads.Asked; Q = S.behind.Reads.Learnt }
 
-pub took! : (w : World) (γ : Env) → γ S.took.Symbol.name ≡ S.took.Symbol.routine → Knows took w γ
-took! w γ e = S.took.Reads.known w γ S.took.Symbol.name S.took.Symbol.routine e (S.took.Met.met (w .𝓤) (w .H) (w .𝓜) (w .𝓖) (w .𝓡))
+pub behind! : (w : World) (γ : Env) → γ S.behind.Symbol.name ≡ S.behind.Symbol.routine → Knows behind w γ
+behind! w γ e = S.behind.Reads.known w γ S.behind.Symbol.name S.behind.Symbol.routine e (S.behind.Met.met (w .𝓤) (w .H) (w .𝓜) (w .𝓖) (w .𝓡))
 
 abbrev pub after : Fun!
 after = record { name = S.after.Symbol.name; n = 0; ps = S.after.Kinds.ps; r = S.after.Kinds.r; P = S.after.Reads.Asked; Q = S.after.Reads.Learnt }

@@ -15,7 +15,7 @@ use Rattle.alc.specs.declared.Claim.{Claim as Record}
 use Rattle.alc.specs.declared.Goal.{Goal as Records}
 use Rattle.room.specs.Stored.{blanks, stored, fetched, goalOf}
 use Rattle.room.proofs.Back.{copied-else, copied-same, fetched-stored}
-use Rattle.states.specs.Standing.{tookOf, secondOf, After, Aside}
+use Rattle.states.specs.Standing.{secondOf, After, Aside}
 use Rattle.states.specs.declared.State.{State}
 use Rattle.states.specs.declared.Act.{Act}
 use Rattle.steps.specs.Acting
@@ -59,7 +59,7 @@ below : (l : List Record) (counts : List ℕ) (x : Goal) (hs : List Goal) → Wa
 unfolding Waiting
 below l counts x hs w = w .1
 
-module _ (text ks xs ys : List ℕ) (entries : ℕ) (l : List Record) (s : State) (big : 1088 ≤ length l) (v : Ready text ks xs ys entries s) (a : Act) (n : State) (f : After s a n)
+module _ (text ks xs ys : List ℕ) (entries : ℕ) (l : List Record) (s : State) (big : 1088 ≤ length l) (v : Ready text ks xs ys entries s) (a : Act) (n : State)
     (d : Leads text ks xs ys entries s a n) where
   abbrev T : Table
   T = tableOf ks xs ys entries
@@ -86,8 +86,8 @@ module _ (text ks xs ys : List ℕ) (entries : ℕ) (l : List Record) (s : State
       go cs w (x ∷ []) o q so (Acting.closes _ k e p h) = on e (record { goals = []; count = p; current = tt; waiting = tt; so = so ∙ h })
       go cs w (x ∷ y ∷ hs) o q so (Acting.takes _ _ _ k e p b n c h) = absurd (not2 k)
 
-  pub stores : (g : Records) (m : List Record) → Aside n a g → a .kind ≡ 1 → m ≡ stored l (a .base) (g .claims) (g .count) → Stepped text ks xs ys entries l s m n
-  stores g m h is1 e = record { ready = d .ready; after = led m n go }
+  pub stores : After s a n → (g : Records) (m : List Record) → Aside n a g → a .kind ≡ 1 → m ≡ stored l (a .base) (g .claims) (g .count) → Stepped text ks xs ys entries l s m n
+  stores f g m h is1 e = record { ready = d .ready; after = led m n go }
     where
       held : (y : Goal) (hs : List Goal) → s .open ≡ suc (length hs) → n .ended ≡ false → n .open ≡ s .open + 1 → a .base ≡ length hs * 64
           → n .counts ≡ set (s .counts) (length hs) (n .goal .count) → secondOf s a ≡ map recordOf y → Waiting l (s .counts) hs → Waiting m (n .counts) (y ∷ hs)
@@ -106,23 +106,10 @@ module _ (text ks xs ys : List ℕ) (entries : ℕ) (l : List Record) (s : State
       go cs w (x ∷ []) o q so (Acting.closes _ k f p h) = absurd (omega (arith, k, is1))
       go cs w (x ∷ y ∷ hs) o q so (Acting.takes _ _ _ k f p b n c h) = absurd (omega (arith, k, is1))
 
-  pub fetches : (g : Records) → a .kind ≡ 2 → g ≡ goalOf (fetched l (a .base) (a .count)) (a .count) → Stepped text ks xs ys entries l s l (tookOf n g)
-  fetches g is2 e = record { ready = λ f. let r = d .ready f in (taken (r .0), r .1); after = led l (tookOf n g) go }
+  pub fetches : a .kind ≡ 2 → n .goal ≡ goalOf (fetched l (a .base) (a .count)) (a .count) → Stepped text ks xs ys entries l s l n
+  fetches is2 e = record { ready = d .ready; after = led l n go }
     where
-      taken : Ready text ks xs ys entries n → Ready text ks xs ys entries (tookOf n g)
-      taken r = record {
-        columns = r .columns;
-        fits = r .fits;
-        going = r .going;
-        few = r .few;
-        small = omega (arith, ap (λ (h : Records). h .count) e, d .fetches is2 .0);
-        slots = r .slots;
-        sizes = r .sizes;
-        within = r .within;
-        counted = r .counted;
-      }
-
-      go : Goes l (tookOf n g)
+      go : Goes l n
       go cs w gs o q so (Acting.stops _ k f h) = absurd (omega (arith, k, is2))
       go cs w (x ∷ hs) o q so (Acting.carries _ y _ k f p c sh h) = absurd (omega (arith, k, is2))
       go cs w (x ∷ hs) o q so (Acting.parts _ y z _ k f p b c sh sh′ h) = absurd (omega (arith, k, is2))

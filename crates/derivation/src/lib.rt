@@ -77,20 +77,16 @@ fn step(
 {
     let a = steps::act_at(text, kinds, firsts, seconds, entries, s);
     let k = kind_of(a);
-    // most lines ask nothing, and their state is returned where it is made, not copied
-    if k == 0 {
-        return states::after(s, a);
-    }
-    let next = states::after(s, a);
     if k == 1 {
+        let next = states::after(s, a);
         room::store(room, base_of(a), states::aside(next, a));
         return next;
     }
     if k == 2 {
         let goal = room::fetch(room, base_of(a), count_of(a));
-        return states::took(next, goal);
+        return states::behind(s, a, goal);
     }
-    next
+    states::after(s, a)
 }
 
 // Judges the lines from the state s on as steps. The answer is the verdict from there on, and every record of the room is blank afterwards.

@@ -30,10 +30,6 @@ noCounts = replicate 16 0
 abbrev pub begunOf : Records → ℕ → ℕ → State
 begunOf claims at lines = stateOf claims noCounts 1 0 lines at false 0
 
--- another current goal
-abbrev pub tookOf : State → Records → State
-tookOf s g = stateOf g (s .counts) (s .open) (s .steps) (s .lines) (s .at) (s .ended) (s .number)
-
 -- the turn that leaves a goal of n claims as it is
 abbrev pub idleOf : ℕ → Turn
 idleOf n = record { number = 0; opens = 0; at = n; kept = n; leaves = 0; first = recordBy 0 (is 0 0); second = recordBy 0 (is 0 0) }

@@ -7,7 +7,7 @@ use goals::Turn;
 ghost use mathlib.Core.Path.{_≡_};
 ghost use Prim.Native.Nat.{_<_, _≤_};
 ghost use Rattle.goals.specs.Records.{Makes};
-ghost use Rattle.states.specs.Standing.{begunOf, idleOf, stoppedOf, passedOf, tookOf, partedOf, closedOf, After, Aside};
+ghost use Rattle.states.specs.Standing.{begunOf, idleOf, stoppedOf, passedOf, partedOf, closedOf, afterOf, After, Aside};
 
 // Where a derivation stands: the current goal, how many claims each goal that waits has, and how far the text is read.
 pub struct State {
@@ -143,20 +143,18 @@ pub fn closed(s: State, t: Turn, line: usize, at: usize) -> Act
     passed(s, t, line, at, 2, last * 64, counts[last], waiting)
 }
 
-// The state behind an act at the state s: the turn's first premise is the current goal, and where a second waits its place has its count.
-pub fn after(s: State, a: Act) -> State
-    requires { ⌜ (s .goal .count ≤ 64) × Makes (a .turn) (s .goal) × (a .kind ≡ 1 → (0 < s .open) × (s .open ≤ 16)) ⌝ }
-    ensures { λ r. ⌜ After s a r ⌝ }
+// The state behind the act a at the state s, with its current goal. Where a goal is put aside its place has its count.
+pub fn behind(s: State, a: Act, goal: Goal) -> State
+    requires { ⌜ (a .kind ≡ 1 → (0 < s .open) × (s .open ≤ 16)) ⌝ }
+    ensures { λ r. ⌜ r ≡ afterOf s a goal ⌝ }
 {
-    let goal = s.goal;
-    let turn = a.turn;
     let mut counts = s.counts;
     if a.kind == 1 {
         let waiting = s.open - 1;
         counts[waiting] = a.count;
     }
     State {
-        goal: turns::premise(goal, turn),
+        goal: goal,
         counts: counts,
         open: a.open,
         steps: a.steps,
@@ -167,6 +165,16 @@ pub fn after(s: State, a: Act) -> State
     }
 }
 
+// The state behind an act that fetches no goal: the turn's first premise is the current one.
+pub fn after(s: State, a: Act) -> State
+    requires { ⌜ (s .goal .count ≤ 64) × Makes (a .turn) (s .goal) × (a .kind ≡ 1 → (0 < s .open) × (s .open ≤ 16)) ⌝ }
+    ensures { λ r. ⌜ After s a r ⌝ }
+{
+    let goal = s.goal;
+    let turn = a.turn;
+    behind(s, a, turns::premise(goal, turn))
+}
+
 // The second premise, where the state n behind the act a has the first.
 pub fn aside(n: State, a: Act) -> Goal
     requires { ⌜ (0 < n .goal .count) × (n .goal .count ≤ 64) ⌝ }
@@ -175,13 +183,4 @@ pub fn aside(n: State, a: Act) -> Goal
     let goal = n.goal;
     let turn = a.turn;
     turns::other(goal, turn)
-}
-
-// The state with another current goal.
-pub fn took(s: State, goal: Goal) -> State
-    ensures { λ r. ⌜ r ≡ tookOf s goal ⌝ }
-{
-    let mut next = s;
-    next.goal = goal;
-    next
 }

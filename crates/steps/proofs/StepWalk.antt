@@ -30,12 +30,12 @@ use Rattle.goals.specs.Records.{added, premiseAt, Makes, Leaves, none, one, two
 use Rattle.goals.proofs.RecordLaws.{two-opens, comes-one}
 use Rattle.heading.specs.Parts.{inSteps}
 use Rattle.heading.proofs.Judging.{judge-end, judge-bad, judge-next, judge-refused}
-use Rattle.states.specs.Standing.{stateOf, stoppedOf, passedOf, partedOf, lastOf, takenOf, closedOf, afterOf, verdictOf, After}
+use Rattle.states.specs.Standing.{stateOf, stoppedOf, passedOf, partedOf, lastOf, takenOf, closedOf, afterOf, verdictOf}
 use Rattle.states.specs.declared.State.{State}
 use Rattle.states.specs.declared.Act.{Act}
 use Rattle.steps.specs.Turning.{stepIn, Turned}
 use Rattle.steps.specs.Acting
-use Rattle.steps.specs.Acting.{Ready, Current, from, Acts, Leads, Acted}
+use Rattle.steps.specs.Acting.{Ready, Current, from, Acts, Next, Leads, Acted}
 use Rattle.steps.proofs.StepLaws.{step-word, rows-5, rows-9, rows-turn, after-turn}
 
 refused-by : (k n : ℕ) → (k ≡ 0 → ⊥) → verdictOf k n ≡ refused k n
@@ -54,12 +54,16 @@ module _ (text ks xs ys : List ℕ) (entries : ℕ) (s : State) (v : Ready text 
   abbrev Decided : Verdict → Type 0
   Decided k = (cs : List Sided) (gs : List Goal) → s .open ≡ length gs → Current (s .goal) gs → k ≡ whole cs gs
 
-  -- an act is described by where it leads with any goal that is the first premise
-  abbrev Behind : Act → Type 0
-  Behind a = (g : Records) → g .count ≤ 64 → records g ≡ premiseAt 0 (a .turn) (records (s .goal)) → g .count ≡ a .turn .kept + length (getD (added (a .turn .leaves) (a .turn .first) (a .turn .second)) 0 []) → Leads text ks xs ys entries s a (afterOf s a g)
+  -- the goal g is the first premise of the act a
+  abbrev First : Act → Records → Type 0
+  First a g = (records g ≡ premiseAt 0 (a .turn) (records (s .goal))) × (g .count ≡ a .turn .kept + length (getD (added (a .turn .leaves) (a .turn .first) (a .turn .second)) 0 []))
 
-  behind : (a : Act) → Behind a → (n : State) → After s a n → Leads text ks xs ys entries s a n
-  behind a h n f = subst (Leads text ks xs ys entries s a) (sym (f .is)) (h (n .goal) (f .small) (f .goal) (f .count))
+  -- an act is described by where it leads with any goal that is the first premise, or with any at all where it fetches one
+  abbrev Behind : Act → Type 0
+  Behind a = (g : Records) → g .count ≤ 64 → ((a .kind ≡ 2 → ⊥) → First a g) → Leads text ks xs ys entries s a (afterOf s a g)
+
+  behind : (a : Act) → Behind a → (n : State) → Next s a n → Leads text ks xs ys entries s a n
+  behind a h n f = subst (Leads text ks xs ys entries s a) (sym (f .is)) (h (n .goal) (f .small) (λ no. let p = f .premise no in (p .goal, p .count)))
 
   not-1 : _≡_ {A = ℕ} 0 1 → ⊥
   not-1 e = omega arith
@@ -71,11 +75,11 @@ module _ (text ks xs ys : List ℕ) (entries : ℕ) (s : State) (v : Ready text 
   stops : (k n : ℕ) → Decided (verdictOf k n) → Acted text ks xs ys entries s (stoppedOf s k n)
   stops k n d = record {
     makes = (v .small, record { place = omega arith; kept = omega arith; room = refl; opens = refl }, λ e. absurd (not-1 e));
-    leads = behind (stoppedOf s k n) (λ g small sg n.
+    fetches = λ e. absurd (not-2 e);
+    leads = behind (stoppedOf s k n) (λ g small sg.
         record {
           ready = λ e. absurd (false≢true (sym e));
           stores = λ e. absurd (not-1 e);
-          fetches = λ e. absurd (not-2 e);
           acts = λ cs gs o c. Acting.stops gs refl refl (d cs gs o c);
         });
   }
@@ -192,12 +196,12 @@ module _ (text ks xs ys : List ℕ) (entries : ℕ) (s : State) (v : Ready text 
           pub goes-one : u .opens ≡ 1 → Acted text ks xs ys entries s onto
           goes-one h = record {
             makes = (v .small, mk, λ e. absurd (not-1 e));
-            leads = behind onto (λ g small sg n.
+            fetches = λ e. absurd (not-2 e);
+            leads = behind onto (λ g small sg.
                 record {
                   ready = λ e. (again g (s .counts) (s .open) small (v .slots) (v .sizes) (v .few), f .later);
                   stores = λ e. absurd (not-1 e);
-                  fetches = λ e. absurd (not-2 e);
-                  acts = go g sg;
+                  acts = go g (sg not-2 .0);
                 });
           }
             where
@@ -223,15 +227,19 @@ module _ (text ks xs ys : List ℕ) (entries : ℕ) (s : State) (v : Ready text 
           pub goes-two : u .opens ≡ 2 → s .open ≤ 16 → Acted text ks xs ys entries s apart
           goes-two h few = record {
             makes = (v .small, mk, λ e. (omega (arith, some), few));
-            leads = behind apart (λ g small sg n.
+            fetches = λ e. absurd (one-not-2 e);
+            leads = behind apart (λ g small sg.
+                let n = sg one-not-2 .1 in
                 record {
                   ready = λ e. (again g (set (s .counts) (s .open - 1) (u .kept + 1)) (s .open + 1) small (length-set (s .counts) (s .open - 1) (u .kept + 1) ∙ v .slots) (sizes g small n) (omega arith), f .later);
                   stores = λ e. (omega (arith, size-of g n), small, three, omega arith);
-                  fetches = λ (e : _≡_ {A = ℕ} 1 2). absurd (omega arith);
-                  acts = go g sg n;
+                  acts = go g (sg one-not-2 .0) n;
                 });
           }
             where
+              one-not-2 : _≡_ {A = ℕ} 1 2 → ⊥
+              one-not-2 e = omega arith
+
               three : 3 ≤ u .leaves
               three = two-opens (u .first) (u .second) (u .leaves) (sym (mk .opens) ∙ h)
 
@@ -295,11 +303,11 @@ module _ (text ks xs ys : List ℕ) (entries : ℕ) (s : State) (v : Ready text 
                   subst (λ (b : Bool). Acted text ks xs ys entries s (cond b done back)) (sym (eq-eqb (s .open - 1) 0 e))
                   (record {
                     makes = (v .small, mk, λ i. absurd (not-1 i));
-                    leads = behind done (λ g small sg n.
+                    fetches = λ i. absurd (not-2 i);
+                    leads = behind done (λ g small sg.
                         record {
                           ready = λ _. (again g (s .counts) (s .open - 1) small (v .slots) (v .sizes) (omega (arith, v .few)), f .later);
                           stores = λ i. absurd (not-1 i);
-                          fetches = λ i. absurd (not-2 i);
                           acts = last g e;
                         });
                   })
@@ -307,11 +315,11 @@ module _ (text ks xs ys : List ℕ) (entries : ℕ) (s : State) (v : Ready text 
                   subst (λ (b : Bool). Acted text ks xs ys entries s (cond b done back)) (sym (ne-eqb (s .open - 1) 0 e))
                   (record {
                     makes = (v .small, mk, λ (i : _≡_ {A = ℕ} 2 1). absurd (omega arith));
-                    leads = behind back (λ g small sg n.
+                    fetches = λ _. (v .sizes (s .open - 1 - 1), omega (arith, v .few));
+                    leads = behind back (λ g small sg.
                         record {
                           ready = λ _. (again g (s .counts) (s .open - 1) small (v .slots) (v .sizes) (omega (arith, v .few)), f .later);
                           stores = λ (i : _≡_ {A = ℕ} 2 1). absurd (omega arith);
-                          fetches = λ _. (v .sizes (s .open - 1 - 1), omega (arith, v .few));
                           acts = fetch g e;
                         });
                   })

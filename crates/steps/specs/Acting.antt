@@ -13,7 +13,7 @@ use Rattle.alc.specs.Verdict.{Verdict, judge}
 use Rattle.alc.specs.declared.Goal.{Goal as Records}
 use Rattle.goals.specs.Records.{Makes}
 use Rattle.heading.specs.Parts.{Columns, inSteps}
-use Rattle.states.specs.Standing.{secondOf, After, verdictIn}
+use Rattle.states.specs.Standing.{secondOf, afterOf, After, verdictIn}
 use Rattle.states.specs.declared.State.{State}
 use Rattle.states.specs.declared.Act.{Act}
 
@@ -56,15 +56,21 @@ pub data Acts (T : Table) (cs : List Sided) (text : List ℕ) (s : State) (a : A
       → a .count ≡ getD (s .counts) (length hs) 0 → n .counts ≡ s .counts → from T cs text s (h ∷ k ∷ hs) ≡ from T cs text n (k ∷ hs)
       → Acts T cs text s a n (h ∷ k ∷ hs)
 
--- what the act a comes to, where n is the state behind it: where it goes on it goes on behind the line; what it stores and fetches is within the
--- room; and what it does to the goals
+-- n is a state behind the act a at the state s: its goal is the first premise, or, where one is fetched, any goal
+pub record Next (s : State) (a : Act) (n : State) : Type 0 where
+  pub is : n ≡ afterOf s a (n .goal)
+  pub small : n .goal .count ≤ 64
+  pub premise : (a .kind ≡ 2 → ⊥) → After s a n
+
+-- what the act a comes to, where n is the state behind it: where it goes on it goes on behind the line; what it stores is within the room; and what
+-- it does to the goals
 pub record Leads (text ks xs ys : List ℕ) (entries : ℕ) (s : State) (a : Act) (n : State) : Type 0 where
   pub ready : n .ended ≡ false → Ready text ks xs ys entries n × (s .at < n .at)
   pub stores : a .kind ≡ 1 → (0 < n .goal .count) × (n .goal .count ≤ 64) × (3 ≤ a .turn .leaves) × (a .base + 64 ≤ 1088)
-  pub fetches : a .kind ≡ 2 → (a .count ≤ 64) × (a .base + 64 ≤ 1088)
   pub acts : (cs : List Sided) (gs : List Goal) → s .open ≡ length gs → Current (s .goal) gs → Acts (tableOf ks xs ys entries) cs text s a n gs
 
--- an act at the state s: the state behind it can be made, and it leads there
+-- an act at the state s: the state behind it can be made, what it fetches is within the room, and it leads to the state behind it
 pub record Acted (text ks xs ys : List ℕ) (entries : ℕ) (s : State) (a : Act) : Type 0 where
   pub makes : (s .goal .count ≤ 64) × Makes (a .turn) (s .goal) × (a .kind ≡ 1 → (0 < s .open) × (s .open ≤ 16))
-  pub leads : (n : State) → After s a n → Leads text ks xs ys entries s a n
+  pub fetches : a .kind ≡ 2 → (a .count ≤ 64) × (a .base + 64 ≤ 1088)
+  pub leads : (n : State) → Next s a n → Leads text ks xs ys entries s a n

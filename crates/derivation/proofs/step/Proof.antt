@@ -1,6 +1,6 @@
 -- `derivation::step` meets its contract: what the act asks of the room is within it, and what is done to the room is one of the three laws of
 -- Waits. Assumes nothing.
-use mathlib.Core.Path.{_≡_, refl, sym, subst, _∙_}
+use mathlib.Core.Path.{_≡_, refl, sym, ap, subst, _∙_}
 use mathlib.Core.List.{List, [], _∷_}
 use Prim.Native.Nat.{ℕ, _<_, _≤_, _+_}
 use native.Mathlib.Omega.{arith}
@@ -20,10 +20,10 @@ use Rattle.room.proofs.Claims.{claim, num}
 use Rattle.room.specs.Stored.{stored, fetched, goalOf}
 use Rattle.alc.specs.declared.Claim.{Claim}
 use Rattle.alc.specs.declared.Goal.{Goal}
-use Rattle.states.specs.Standing.{tookOf, After, Aside}
+use Rattle.states.specs.Standing.{afterOf, After, Aside}
 use Rattle.states.specs.declared.State.{State}
 use Rattle.states.specs.declared.Act.{Act}
-use Rattle.steps.specs.Acting.{Ready, Leads, Acted}
+use Rattle.steps.specs.Acting.{Ready, Next, Leads, Acted}
 use Rattle.derivation.specs.Waiting.{Stepped}
 use Rattle.derivation.proofs.Covered as F
 use Rattle.derivation.proofs.Tables as C
@@ -34,49 +34,45 @@ use Rattle.derivation.proofs.step.Statement.{statement}
 use Rattle.derivation.proofs.step.Code as code
 
 -- the laws of Waits, at what the functions by value give
-module _ (text ks xs ys : List ℕ) (entries : ℕ) (l : List Claim) (s : State) (pre : (1088 ≤ length l) × Ready text ks xs ys entries s) (a : Act) (d : Acted text ks xs ys entries s a) (n : State)
-    (f : After s a n) where
-  there : Leads text ks xs ys entries s a n
-  there = d .leads n f
-
-  -- the second premise can be made
-  second : a .kind ≡ 1 → (0 < n .goal .count) × (n .goal .count ≤ 64)
-  second is1 = let h = there .stores is1 in (h .0, h .1)
-
-  -- what is stored, and what is fetched, is within the room
-  place : a .kind ≡ 1 → (base : ℕ) (g : Goal) → base ≡ a .base → Aside n a g → (g .count ≤ 64) × (base + g .count ≤ length l)
-  place is1 base g eb h = let k = there .stores is1 in (omega (arith, k .1, h .count), omega (arith, k .1, k .3, h .count, eb, pre .0))
-
+module _ (text ks xs ys : List ℕ) (entries : ℕ) (l : List Claim) (s : State) (pre : (1088 ≤ length l) × Ready text ks xs ys entries s) (a : Act) (d : Acted text ks xs ys entries s a) where
+  -- what is fetched is within the room
   part : a .kind ≡ 2 → (base m : ℕ) → base ≡ a .base → m ≡ a .count → (m ≤ 64) × (base + m ≤ length l)
-  part is2 base m eb en = let h = there .fetches is2 in rw (eb, en) (h .0, omega (arith, h .0, h .1, pre .0))
+  part is2 base m eb en = let h = d .fetches is2 in rw (eb, en) (h .0, omega (arith, h .0, h .1, pre .0))
 
-  storing : a .kind ≡ 1 → (base : ℕ) (g : Goal) (m : List Claim) → base ≡ a .base → Aside n a g → m ≡ stored l base (g .claims) (g .count) → Stepped text ks xs ys entries l s m n
-  storing is1 base g m eb h em = stores text ks xs ys entries l s (pre .0) (pre .1) a n f there g m h is1 (em ∙ rw eb)
-
-  fetching : a .kind ≡ 2 → (base k : ℕ) (g : Goal) (r : State) → base ≡ a .base → k ≡ a .count → g ≡ goalOf (fetched l base k) k → r ≡ tookOf n g → Stepped text ks xs ys entries l s l r
+  fetching : a .kind ≡ 2 → (base k : ℕ) (g : Goal) (r : State) → base ≡ a .base → k ≡ a .count → g ≡ goalOf (fetched l base k) k → r ≡ afterOf s a g → Stepped text ks xs ys entries l s l r
   fetching is2 base k g r eb en ef er =
-      subst (Stepped text ks xs ys entries l s l) (sym er) (fetches text ks xs ys entries l s (pre .0) (pre .1) a n f there g is2 (ef ∙ rw (eb, en)))
+      let here : g ≡ goalOf (fetched l (a .base) (a .count)) (a .count) = ef ∙ rw (eb, en) in
+      let small : g .count ≤ 64 = omega (arith, ap (λ (h : Goal). h .count) here, d .fetches is2 .0) in
+      let next : Next s a (afterOf s a g) = record { is = refl; small = small; premise = λ no. absurd (no is2) } in
+      subst (Stepped text ks xs ys entries l s l) (sym er) (fetches text ks xs ys entries l s (pre .0) (pre .1) a (afterOf s a g) (d .leads (afterOf s a g) next) is2 here)
 
-  resting : (a .kind ≡ 1 → ⊥) → (a .kind ≡ 2 → ⊥) → Stepped text ks xs ys entries l s l n
-  resting not1 not2 = rests text ks xs ys entries l s (pre .0) (pre .1) a n f there not1 not2
+  -- where the goal is the first premise
+  module _ (n : State) (f : After s a n) where
+    there : Leads text ks xs ys entries s a n
+    there = d .leads n (record { is = f .is; small = f .small; premise = λ _. f })
 
-  -- the act that asks nothing of the room is neither of the two that do
-  asking-none : a .kind ≡ 0 → Stepped text ks xs ys entries l s l n
-  asking-none is0 = resting (λ (e : a .kind ≡ 1). omega arith) (λ (e : a .kind ≡ 2). omega arith)
+    -- the second premise can be made
+    second : a .kind ≡ 1 → (0 < n .goal .count) × (n .goal .count ≤ 64)
+    second is1 = let h = there .stores is1 in (h .0, h .1)
 
-module _ (w : World) (store : Knows (fun RC.store) w code.env) (fetch : Knows (fun RC.fetch) w code.env) (act-at : Knows F.act-at w code.env) (kind-of : Knows F.kind-of w code.env) (after : Knows F.after w code.env) (base-of : Knows F.base-of w code.env) (aside : Knows F.aside w code.env) (count-of : Knows F.count-of w code.env) (took : Knows F.took w code.env) where
+    -- what is stored is within the room
+    place : a .kind ≡ 1 → (base : ℕ) (g : Goal) → base ≡ a .base → Aside n a g → (g .count ≤ 64) × (base + g .count ≤ length l)
+    place is1 base g eb h = let k = there .stores is1 in (omega (arith, k .1, h .count), omega (arith, k .1, k .3, h .count, eb, pre .0))
+
+    storing : a .kind ≡ 1 → (base : ℕ) (g : Goal) (m : List Claim) → base ≡ a .base → Aside n a g → m ≡ stored l base (g .claims) (g .count) → Stepped text ks xs ys entries l s m n
+    storing is1 base g m eb h em = stores text ks xs ys entries l s (pre .0) (pre .1) a n there f g m h is1 (em ∙ rw eb)
+
+    resting : (a .kind ≡ 1 → ⊥) → (a .kind ≡ 2 → ⊥) → Stepped text ks xs ys entries l s l n
+    resting not1 not2 = rests text ks xs ys entries l s (pre .0) (pre .1) a n there not1 not2
+
+module _ (w : World) (store : Knows (fun RC.store) w code.env) (fetch : Knows (fun RC.fetch) w code.env) (act-at : Knows F.act-at w code.env) (kind-of : Knows F.kind-of w code.env) (after : Knows F.after w code.env) (base-of : Knows F.base-of w code.env) (aside : Knows F.aside w code.env) (count-of : Knows F.count-of w code.env) (behind : Knows F.behind w code.env) where
   unfoldable body : Body! C.step 1 code.function w code.env
   body κs qs bs =
       calls F.act-at act-at 8 (1 ∷ 2 ∷ 3 ∷ 4 ∷ []) (record { pos = 2; ty = τ 1; ref = λ x. x }, (record { pos = 3; ty = τ 2; ref = λ x. x }, (record { pos = 4; ty = τ 3; ref = λ x. x }, (record { pos = 5; ty = τ 4; ref = λ x. x }, (vAt 6 (λ x. x), (record { pos = 7; st = []; d = 0; at = λ x. x }, tt)))))) (search rules, search rules, refl, (search rules, search rules, refl, (search rules, search rules, refl, (search rules, search rules, refl, (search rules, (search rules, tt)))))) (search rules) ▸
       calls F.kind-of kind-of 9 [] (record { pos = 8; st = []; d = 0; at = λ x. x }, tt) (search rules) (search rules) ▸
-      calcs 12 sBool eq (oAt 9 i8 (valS byte)) (oInt w8 0) (search rules) ▸
-      joins (conds 12 (λ x. x) (search rules) (
-      calls F.after after 0 [] (record { pos = 7; st = []; d = 0; at = λ x. x }, (record { pos = 8; st = []; d = 0; at = λ x. x }, tt)) (search rules, (search rules, tt)) (search rules) ▸
-      clears (6 ∷ 7 ∷ 8 ∷ 9 ∷ []) (used w num, (C.state-gone w, (C.act-gone w, (used w byte, tt)))) (clears (12 ∷ []) (used w sBool, tt) (
-      returns tt))) (skips tt)) (
-      calls F.after after 10 [] (record { pos = 7; st = []; d = 0; at = λ x. x }, (record { pos = 8; st = []; d = 0; at = λ x. x }, tt)) (search rules, (search rules, tt)) (search rules) ▸
       calcs 12 sBool eq (oAt 9 i8 (valS byte)) (oInt w8 1) (search rules) ▸
       joins (conds 12 (λ x. x) (search rules) (
+      calls F.after after 10 [] (record { pos = 7; st = []; d = 0; at = λ x. x }, (record { pos = 8; st = []; d = 0; at = λ x. x }, tt)) (search rules, (search rules, tt)) (search rules) ▸
       lends (claim .R) 1 14 15 0 5 (named 0) (lease (κs .0) (qs .0)) (λ x. x) (λ x. x) (λ x. x) (tts 22) (search rules) (search rules) (
       calls F.base-of base-of 16 [] (record { pos = 8; st = []; d = 0; at = λ x. x }, tt) (search rules) (search rules) ▸
       calls F.aside aside 17 [] (record { pos = 10; st = []; d = 0; at = λ x. x }, (record { pos = 8; st = []; d = 0; at = λ x. x }, tt)) (search rules, (search rules, tt)) (search rules) ▸
@@ -93,12 +89,12 @@ module _ (w : World) (store : Knows (fun RC.store) w code.env) (fetch : Knows (f
       calls (fun RC.fetch) fetch 11 (5 ∷ []) (record { pos = 19; ty = refS (claim .R) erased; ref = λ x. x }, (vAt 20 (λ x. x), (vAt 21 (λ x. x), tt))) (search sharing, search sharing, refl, (search sharing, (search sharing, tt))) (search sharing) ▸
       clears (19 ∷ []) (RC.seen-gone w 5, tt) (
       unshares (claim .R) 1 0 5 (named 0) (lease (κs .0) (qs .0)) (λ x. x) (search sharing) ▹
-      calls F.took took 0 [] (record { pos = 10; st = []; d = 0; at = λ x. x }, (record { pos = 11; st = []; d = 0; at = λ x. x }, tt)) (search rules) (search rules) ▸
-      clears (6 ∷ 7 ∷ 8 ∷ 9 ∷ []) (used w num, (C.state-gone w, (C.act-gone w, (used w byte, tt)))) (clears (10 ∷ 11 ∷ 12 ∷ []) (C.state-gone w, (RC.goal-gone w, (used w sBool, tt))) (clears (20 ∷ 21 ∷ []) (used w num, (used w num, tt)) (
+      calls F.behind behind 0 [] (record { pos = 7; st = []; d = 0; at = λ x. x }, (record { pos = 8; st = []; d = 0; at = λ x. x }, (record { pos = 11; st = []; d = 0; at = λ x. x }, tt))) (search rules, (search rules, (search rules, tt))) (search rules) ▸
+      clears (6 ∷ 7 ∷ 8 ∷ 9 ∷ []) (used w num, (C.state-gone w, (C.act-gone w, (used w byte, tt)))) (clears (11 ∷ 12 ∷ []) (RC.goal-gone w, (used w sBool, tt)) (clears (20 ∷ 21 ∷ []) (used w num, (used w num, tt)) (
       returns tt)))))) (skips tt)) (
-      copies state 10 0 (λ x. x) (λ x. x) (search rules) ▸
-      clears (6 ∷ 7 ∷ 8 ∷ 9 ∷ []) (used w num, (C.state-gone w, (C.act-gone w, (used w byte, tt)))) (clears (10 ∷ 12 ∷ []) (C.state-gone w, (used w sBool, tt)) (
-      returns tt)))))
+      calls F.after after 0 [] (record { pos = 7; st = []; d = 0; at = λ x. x }, (record { pos = 8; st = []; d = 0; at = λ x. x }, tt)) (search rules, (search rules, tt)) (search rules) ▸
+      clears (6 ∷ 7 ∷ 8 ∷ 9 ∷ []) (used w num, (C.state-gone w, (C.act-gone w, (used w byte, tt)))) (clears (12 ∷ []) (used w sBool, tt) (
+      returns tt))))
 
   met : Asks! C.step 1 code.function w code.env body
   unfolding body
@@ -109,57 +105,48 @@ module _ (w : World) (store : Knows (fun RC.store) w code.env) (fetch : Knows (f
       λ k. (
         tt,
         (
-          λ test. let is0 : a .1 .kind ≡ 0 = sym (k .5) ∙ eqb-true (k .1) 0 test in (
+          λ test. let is1 : a .1 .kind ≡ 1 = sym (k .5) ∙ eqb-true (k .1) 1 test in (
             λ _. a .5 .makes,
-            λ next. ((refl, (refl, (refl, (refl, (refl, (tt, (tt, tt))))))), asking-none (text .now) (kinds .now) (firsts .now) (seconds .now) entries (room .now) s pre (a .1) (a .5) (next .1) (next .5) is0),
-          ),
-          λ _. (
-            λ _. a .5 .makes,
-            λ next. (
-              tt,
+            λ next γ. (
+              refl,
               (
-                λ test. let is1 : a .1 .kind ≡ 1 = sym (k .5) ∙ eqb-true (k .1) 1 test in
-                    λ γ. (
+                λ _. tt,
+                λ base. (
+                  λ _. second (text .now) (kinds .now) (firsts .now) (seconds .now) entries (room .now) s pre (a .1) (a .5) (next .1) (next .5) is1,
+                  λ g. (
+                    λ _. place (text .now) (kinds .now) (firsts .now) (seconds .now) entries (room .now) s pre (a .1) (a .5) (next .1) (next .5) is1 (base .1) (g .1) (base .5) (g .5),
+                    λ st. (
                       refl,
-                      (
+                      λ same. ((same-len room (st .2 .0) same, (refl, (refl, (refl, (refl, (tt, (tt, tt))))))), storing (text .now) (kinds .now) (firsts .now) (seconds .now) entries (room .now) s pre (a .1) (a .5) (next .1) (next .5) is1 (base .1) (g .1) (st .2 .0) (base .5) (g .5) (st .5)),
+                    ),
+                  ),
+                ),
+              ),
+            ),
+          ),
+          λ test. let not1 : a .1 .kind ≡ 1 → ⊥ = λ (e : a .1 .kind ≡ 1). eqb-false (k .1) 1 test (k .5 ∙ e) in (
+            tt,
+            (
+              λ test′. let is2 : a .1 .kind ≡ 2 = sym (k .5) ∙ eqb-true (k .1) 2 test′ in
+                  λ γ. (
+                    refl,
+                    (
+                      λ _. tt,
+                      λ base. (
                         λ _. tt,
-                        λ base. (
-                          λ _. second (text .now) (kinds .now) (firsts .now) (seconds .now) entries (room .now) s pre (a .1) (a .5) (next .1) (next .5) is1,
-                          λ g. (
-                            λ _. place (text .now) (kinds .now) (firsts .now) (seconds .now) entries (room .now) s pre (a .1) (a .5) (next .1) (next .5) is1 (base .1) (g .1) (base .5) (g .5),
-                            λ st. (
-                              refl,
-                              λ same. ((same-len room (st .2 .0) same, (refl, (refl, (refl, (refl, (tt, (tt, tt))))))), storing (text .now) (kinds .now) (firsts .now) (seconds .now) entries (room .now) s pre (a .1) (a .5) (next .1) (next .5) is1 (base .1) (g .1) (st .2 .0) (base .5) (g .5) (st .5)),
-                            ),
+                        λ n. (
+                          λ _. part (text .now) (kinds .now) (firsts .now) (seconds .now) entries (room .now) s pre (a .1) (a .5) is2 (base .1) (n .1) (base .5) (n .5),
+                          λ f. (
+                            λ _ is1. absurd (not1 is1),
+                            λ r. ((refl, (refl, (refl, (refl, (refl, (tt, (tt, tt))))))), fetching (text .now) (kinds .now) (firsts .now) (seconds .now) entries (room .now) s pre (a .1) (a .5) is2 (base .1) (n .1) (f .1) (r .1) (base .5) (n .5) (f .5) (r .5)),
                           ),
                         ),
                       ),
                     ),
-                λ test. let not1 : a .1 .kind ≡ 1 → ⊥ = λ (e : a .1 .kind ≡ 1). eqb-false (k .1) 1 test (k .5 ∙ e) in (
-                  tt,
-                  (
-                    λ test′. let is2 : a .1 .kind ≡ 2 = sym (k .5) ∙ eqb-true (k .1) 2 test′ in
-                        λ γ. (
-                          refl,
-                          (
-                            λ _. tt,
-                            λ base. (
-                              λ _. tt,
-                              λ n. (
-                                λ _. part (text .now) (kinds .now) (firsts .now) (seconds .now) entries (room .now) s pre (a .1) (a .5) (next .1) (next .5) is2 (base .1) (n .1) (base .5) (n .5),
-                                λ f. (
-                                  λ _. tt,
-                                  λ r. ((refl, (refl, (refl, (refl, (refl, (tt, (tt, tt))))))), fetching (text .now) (kinds .now) (firsts .now) (seconds .now) entries (room .now) s pre (a .1) (a .5) (next .1) (next .5) is2 (base .1) (n .1) (f .1) (r .1) (base .5) (n .5) (f .5) (r .5)),
-                                ),
-                              ),
-                            ),
-                          ),
-                        ),
-                    λ test′.
-                        let not2 : a .1 .kind ≡ 2 → ⊥ = λ (e : a .1 .kind ≡ 2). eqb-false (k .1) 2 test′ (k .5 ∙ e) in
-                        ((refl, (refl, (refl, (refl, (refl, (tt, (tt, tt))))))), resting (text .now) (kinds .now) (firsts .now) (seconds .now) entries (room .now) s pre (a .1) (a .5) (next .1) (next .5) not1 not2),
                   ),
-                ),
+              λ test′. let not2 : a .1 .kind ≡ 2 → ⊥ = λ (e : a .1 .kind ≡ 2). eqb-false (k .1) 2 test′ (k .5 ∙ e) in (
+                λ _. a .5 .makes,
+                λ next. ((refl, (refl, (refl, (refl, (refl, (tt, (tt, tt))))))), resting (text .now) (kinds .now) (firsts .now) (seconds .now) entries (room .now) s pre (a .1) (a .5) (next .1) (next .5) not1 not2),
               ),
             ),
           ),
@@ -180,5 +167,5 @@ step-spec 𝓤 H 𝓜 𝓖 𝓡 =
     let base-of = F.base-of! w code.env code.calls-derivation·base-of in
     let aside = F.aside! w code.env code.calls-states·aside in
     let count-of = F.count-of! w code.env code.calls-derivation·count-of in
-    let took = F.took! w code.env code.calls-states·took in
-    proved C.step 1 code.function w code.env name (code.unfolded 𝓤 H 𝓜 𝓡) (body w store fetch act-at kind-of after base-of aside count-of took) (met w store fetch act-at kind-of after base-of aside count-of took)
+    let behind = F.behind! w code.env code.calls-states·behind in
+    proved C.step 1 code.function w code.env name (code.unfolded 𝓤 H 𝓜 𝓡) (body w store fetch act-at kind-of after base-of aside count-of behind) (met w store fetch act-at kind-of after base-of aside count-of behind)
