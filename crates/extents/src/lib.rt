@@ -61,7 +61,8 @@ fn all_in(size: u8, edges: &[u32; 512], r: alc::Role, s: u32) -> u32
     outside(size, reaching(size, edges, r, outside(size, s)))
 }
 
-// The elements of one line of the table, from those of the lines above it. Kinds are numbered from 0, `top`, to 7, `all`.
+// The elements of one line of the table, from those of the lines above it. Kinds are numbered from 0: `top`, `bot`, `atom`,
+// `not`, `and`, `or`, `some`, `all`.
 fn extent(
     kind: u8,
     x: u8,

@@ -42,7 +42,7 @@ fn in_size(n: u16) -> bool
 }
 
 // Whether every field of a line of the table, of a claim, of `proof` or of `model` is in its range: 16 is the bound of a role, 64 that of an
-// atom or a name.
+// atom or a name. Words go by their numbers: 2 `atom`, 3 `not`, 4 `and`, 5 `or`, 6 `some`, 7 `all`, 8 `is`, 9 `sub`, 10 `link`.
 fn in_head(l: Line, entries: usize) -> bool
     requires { ⌜ l .word < 13 ⌝ }
     ensures { λ r. ⌜ ((d : ℕ) → r ≡ every (inRange entries d) (saidFields (saying l))) ⌝ }
@@ -62,7 +62,7 @@ fn in_head(l: Line, entries: usize) -> bool
     }
 }
 
-// The same of a step: most have a name and a concept.
+// The same of a step: most have a name and a concept. 14 is `id-sub`, 15 `id-link`, 26 `sub-l`, 27 `sub-r`, 28 to 31 are `some-l` to `all-r`.
 fn in_step(l: Line, entries: usize) -> bool
     requires { ⌜ (13 ≤ l .word) × (l .word < 32) ⌝ }
     ensures { λ r. ⌜ ((d : ℕ) → r ≡ every (inRange entries d) (saidFields (saying l))) ⌝ }
@@ -81,7 +81,7 @@ fn in_step(l: Line, entries: usize) -> bool
     }
 }
 
-// The same of a line of a model.
+// The same of a line of a model: 32 is `size`, 33 `name`, 34 `has`, 35 `edge`.
 fn in_model(l: Line, elements: usize) -> bool
     requires { ⌜ (32 ≤ l .word) × (l .word < wordCount) ⌝ }
     ensures { λ r. ⌜ ((e : ℕ) → r ≡ every (inRange e elements) (saidFields (saying l))) ⌝ }

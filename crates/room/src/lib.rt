@@ -1,4 +1,5 @@
-// The room that the caller lends: a slice of claim records, in which goals are stored and from which they are fetched.
+// The room that the caller lends: a slice of claim records, in which goals are stored and from which they are fetched. Functions over it are proved by
+// hand, call by call, so each field that they read or make has a function.
 use alc::Claim;
 use alc::Concept;
 use alc::Goal;

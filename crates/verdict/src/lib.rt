@@ -1,4 +1,5 @@
-// The judging function: a text and a lent room in, the verdict out, and the room is blank afterwards.
+// The judging function: a text and a lent room in, the verdict out, and the room is blank afterwards. Functions over the room are proved by hand, call
+// by call, so each field that they read has a function.
 use alc::Answer;
 use alc::Claim;
 use opening::Opening;
