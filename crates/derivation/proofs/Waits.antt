@@ -18,8 +18,9 @@ use Rattle.room.proofs.Back.{copied-else, copied-same, fetched-stored}
 use Rattle.states.specs.Standing.{secondOf, After, Aside}
 use Rattle.states.specs.declared.State.{State}
 use Rattle.states.specs.declared.Act.{Act}
-use Rattle.steps.specs.Acting
-use Rattle.steps.specs.Acting.{Ready, from, Acts, Leads}
+use Rattle.steps.specs.Acting.{Ready, from}
+use Rattle.steps.proofs.Leading
+use Rattle.steps.proofs.Leading.{Acts, Leads}
 use Rattle.derivation.specs.Waiting.{Waiting, Rest, Stands, Behind, Stepped}
 
 -- the goals below place k wait on in a room that is the same below it
@@ -79,12 +80,12 @@ module _ (text ks xs ys : List ℕ) (entries : ℕ) (l : List Record) (s : State
   rests not1 not2 = record { ready = d .ready; after = led l n go }
     where
       go : Goes l n
-      go cs w gs o q so (Acting.stops _ k e h) = record { there = λ _. h ∙ sym so; stands = λ f. absurd (false≢true (sym f ∙ e)) }
-      go cs w (x ∷ hs) o q so (Acting.carries _ y _ k e p c sh h) =
+      go cs w gs o q so (Leading.stops _ k e h) = record { there = λ _. h ∙ sym so; stands = λ f. absurd (false≢true (sym f ∙ e)) }
+      go cs w (x ∷ hs) o q so (Leading.carries _ y _ k e p c sh h) =
           on e (record { goals = y ∷ hs; count = p ∙ o; current = sh; waiting = subst (λ (n : List ℕ). Waiting l n hs) (sym c) q; so = so ∙ h })
-      go cs w (x ∷ hs) o q so (Acting.parts _ y z _ k e p b c sh sh′ h) = absurd (not1 k)
-      go cs w (x ∷ []) o q so (Acting.closes _ k e p h) = on e (record { goals = []; count = p; current = tt; waiting = tt; so = so ∙ h })
-      go cs w (x ∷ y ∷ hs) o q so (Acting.takes _ _ _ k e p b n c h) = absurd (not2 k)
+      go cs w (x ∷ hs) o q so (Leading.parts _ y z _ k e p b c sh sh′ h) = absurd (not1 k)
+      go cs w (x ∷ []) o q so (Leading.closes _ k e p h) = on e (record { goals = []; count = p; current = tt; waiting = tt; so = so ∙ h })
+      go cs w (x ∷ y ∷ hs) o q so (Leading.takes _ _ _ k e p b n c h) = absurd (not2 k)
 
   pub stores : After s a n → (g : Records) (m : List Record) → Aside n a g → a .kind ≡ 1 → m ≡ stored l (a .base) (g .claims) (g .count) → Stepped text ks xs ys entries l s m n
   stores f g m h is1 e = record { ready = d .ready; after = led m n go }
@@ -99,22 +100,22 @@ module _ (text ks xs ys : List ℕ) (entries : ℕ) (l : List Record) (s : State
           (pushed l (s .counts) g y hs (v .slots) (omega (arith, o, p, d .ready z .0 .few)) (v .sizes) small (h .full) (omega (arith, fit .3, b, big)) (h .goal (records (s .goal)) (f .goal) (fit .2) ∙ sh) q))
 
       go : Goes m n
-      go cs w gs o q so (Acting.stops _ k f h) = absurd (omega (arith, k, is1))
-      go cs w (x ∷ hs) o q so (Acting.carries _ y _ k f p c sh h) = absurd (omega (arith, k, is1))
-      go cs w (x ∷ hs) o q so (Acting.parts _ y z _ k f p b c sh sh′ h) =
+      go cs w gs o q so (Leading.stops _ k f h) = absurd (omega (arith, k, is1))
+      go cs w (x ∷ hs) o q so (Leading.carries _ y _ k f p c sh h) = absurd (omega (arith, k, is1))
+      go cs w (x ∷ hs) o q so (Leading.parts _ y z _ k f p b c sh sh′ h) =
           on f (record { goals = y ∷ z ∷ hs; count = omega (arith, p, o); current = sh; waiting = held z hs o f p b c sh′ q; so = so ∙ h })
-      go cs w (x ∷ []) o q so (Acting.closes _ k f p h) = absurd (omega (arith, k, is1))
-      go cs w (x ∷ y ∷ hs) o q so (Acting.takes _ _ _ k f p b n c h) = absurd (omega (arith, k, is1))
+      go cs w (x ∷ []) o q so (Leading.closes _ k f p h) = absurd (omega (arith, k, is1))
+      go cs w (x ∷ y ∷ hs) o q so (Leading.takes _ _ _ k f p b n c h) = absurd (omega (arith, k, is1))
 
   pub fetches : a .kind ≡ 2 → n .goal ≡ goalOf (fetched l (a .base) (a .count)) (a .count) → Stepped text ks xs ys entries l s l n
   fetches is2 e = record { ready = d .ready; after = led l n go }
     where
       go : Goes l n
-      go cs w gs o q so (Acting.stops _ k f h) = absurd (omega (arith, k, is2))
-      go cs w (x ∷ hs) o q so (Acting.carries _ y _ k f p c sh h) = absurd (omega (arith, k, is2))
-      go cs w (x ∷ hs) o q so (Acting.parts _ y z _ k f p b c sh sh′ h) = absurd (omega (arith, k, is2))
-      go cs w (x ∷ []) o q so (Acting.closes _ k f p h) = absurd (omega (arith, k, is2))
-      go cs w (x ∷ y ∷ hs) o q so (Acting.takes _ _ _ k f p b n c h) =
+      go cs w gs o q so (Leading.stops _ k f h) = absurd (omega (arith, k, is2))
+      go cs w (x ∷ hs) o q so (Leading.carries _ y _ k f p c sh h) = absurd (omega (arith, k, is2))
+      go cs w (x ∷ hs) o q so (Leading.parts _ y z _ k f p b c sh sh′ h) = absurd (omega (arith, k, is2))
+      go cs w (x ∷ []) o q so (Leading.closes _ k f p h) = absurd (omega (arith, k, is2))
+      go cs w (x ∷ y ∷ hs) o q so (Leading.takes _ _ _ k f p b n c h) =
           on f (record {
             goals = y ∷ hs;
             count = omega (arith, p, o);

@@ -1,4 +1,4 @@
--- One line of a derivation: what it does is what the judge does, with the goals that are open. Where a row fails the verdict is there; where all
+-- One line of a derivation: its act does what the judge does, with the goals that are open. Where a row fails the verdict is there; where all
 -- pass, the premises take the current goal's place. Assumes nothing.
 use Prim.Native.Nat.{ℕ, zero, suc, _+_, _-_, _*_, _≤_, _<_}
 use native.Mathlib.Omega.{arith}
@@ -10,10 +10,12 @@ use mathlib.Core.Path.{_≡_, refl, sym, ap, ap₂, subst, _∙_}
 use lib.ListN.{length, getD, set, drop, length-set}
 use lib.Seq.{getD-set-same, getD-set-other}
 use borrow.Author.Tests.{lt-ltb, le-ltb, eq-eqb, ne-eqb}
-use Rattle.lines.specs.Text.{linesOf}
+use Rattle.lines.specs.Text.{linesOf, readAt}
 use Rattle.lines.specs.declared.Line.{Line}
+use Rattle.lines.specs.declared.Next.{Next as Read}
+use Rattle.lines.specs.declared.Next.the-variants.{Found, Bad, End}
 use Rattle.lines.proofs.Told.{Told, told}
-use Rattle.reading.proofs.Loop.{Line-found, Line-bad}
+use Rattle.reading.proofs.Loop.{Line-found, Line-bad, when-found, when-bad, when-end}
 use Rattle.alc.specs.Lists.{isEmpty}
 use Rattle.alc.specs.Rows.{refusal}
 use Rattle.alc.specs.Table.{Table}
@@ -33,9 +35,11 @@ use Rattle.heading.proofs.Judging.{judge-end, judge-bad, judge-next, judge-refu
 use Rattle.states.specs.Standing.{stateOf, stoppedOf, passedOf, partedOf, lastOf, takenOf, closedOf, afterOf, verdictOf}
 use Rattle.states.specs.declared.State.{State}
 use Rattle.states.specs.declared.Act.{Act}
-use Rattle.steps.specs.Turning.{stepIn, Turned}
+use Rattle.steps.specs.Turning.{stepIn, Turned, TurnAt}
 use Rattle.steps.specs.Acting
-use Rattle.steps.specs.Acting.{Ready, Current, from, Acts, Next, Leads, Acted}
+use Rattle.steps.specs.Acting.{Ready, Current, from, turnedBy, ActAt}
+use Rattle.steps.proofs.Leading
+use Rattle.steps.proofs.Leading.{Acts, Next, Leads, Acted}
 use Rattle.steps.proofs.StepLaws.{step-word, rows-5, rows-9, rows-turn, after-turn}
 
 refused-by : (k n : ℕ) → (k ≡ 0 → ⊥) → verdictOf k n ≡ refused k n
@@ -80,7 +84,7 @@ module _ (text ks xs ys : List ℕ) (entries : ℕ) (s : State) (v : Ready text 
         record {
           ready = λ e. absurd (false≢true (sym e));
           stores = λ e. absurd (not-1 e);
-          acts = λ cs gs o c. Acting.stops gs refl refl (d cs gs o c);
+          acts = λ cs gs o c. Leading.stops gs refl refl (d cs gs o c);
         });
   }
 
@@ -88,7 +92,7 @@ module _ (text ks xs ys : List ℕ) (entries : ℕ) (s : State) (v : Ready text 
   line-more : (k : ℕ) → refused k (suc (s .lines)) ≡ refused k (s .lines + 1)
   line-more k = ap (refused k) (sym (add-one (s .lines)))
 
-  pub stops-bad : Line-bad text (s .at) 2 → Acted text ks xs ys entries s (stoppedOf s 2 (s .lines + 1))
+  stops-bad : Line-bad text (s .at) 2 → Acted text ks xs ys entries s (stoppedOf s 2 (s .lines + 1))
   stops-bad b = stops 2 (s .lines + 1) (λ cs gs o c. sym (judge-bad text (s .at) 2 (s .lines) (inSteps T cs (s .steps) gs) refl b ∙ line-more 2))
 
   -- at the end
@@ -96,14 +100,14 @@ module _ (text ks xs ys : List ℕ) (entries : ℕ) (s : State) (v : Ready text 
   unfolding ending
   ended cs gs e = judge-end (s .lines) (inSteps T cs (s .steps) gs) _ e
 
-  pub stops-open : linesOf (drop (s .at) text) ≡ [] → 0 < s .open → Acted text ks xs ys entries s (stoppedOf s 12 (s .lines + 1))
+  stops-open : linesOf (drop (s .at) text) ≡ [] → 0 < s .open → Acted text ks xs ys entries s (stoppedOf s 12 (s .lines + 1))
   stops-open e h = stops 12 (s .lines + 1) (λ cs gs o c. sym (ended cs gs e ∙ go gs o ∙ line-more 12))
     where
       go : (hs : List Goal) → s .open ≡ length hs → cond (isEmpty hs) (proved (s .lines)) (refused 12 (suc (s .lines))) ≡ refused 12 (suc (s .lines))
       go [] q = absurd (omega arith)
       go (x ∷ hs) q = refl
 
-  pub stops-proved : linesOf (drop (s .at) text) ≡ [] → s .open ≤ 0 → Acted text ks xs ys entries s (stoppedOf s 0 (s .lines))
+  stops-proved : linesOf (drop (s .at) text) ≡ [] → s .open ≡ 0 → Acted text ks xs ys entries s (stoppedOf s 0 (s .lines))
   stops-proved e h = stops 0 (s .lines) (λ cs gs o c. sym (ended cs gs e ∙ go gs o))
     where
       go : (hs : List Goal) → s .open ≡ length hs → cond (isEmpty hs) (proved (s .lines)) (refused 12 (suc (s .lines))) ≡ proved (s .lines)
@@ -127,13 +131,13 @@ module _ (text ks xs ys : List ℕ) (entries : ℕ) (s : State) (v : Ready text 
         stops k (s .lines + 1)
         (λ cs gs o c. refused-by k (s .lines + 1) z ∙ sym (judge-refused text (s .at) 2 (s .lines) (inSteps T cs (s .steps) gs) refl l to f k (r cs gs o c) z ∙ line-more k))
 
-    pub stops-5 : 1024 ≤ s .steps → Acted text ks xs ys entries s (stoppedOf s 5 (s .lines + 1))
+    stops-5 : 1024 ≤ s .steps → Acted text ks xs ys entries s (stoppedOf s 5 (s .lines + 1))
     stops-5 h =
         refuses 5 (λ (z : _≡_ {A = ℕ} 5 0). omega arith)
         (λ cs gs o c. rows-5 T entries long-table (v .columns .few) l t (word .0) (word .1) cs (s .steps) gs (le-ltb (s .steps) 1024 h))
 
     module _ (room : s .steps < 1024) where
-      pub stops-9 : s .open ≡ 0 → Acted text ks xs ys entries s (stoppedOf s 9 (s .lines + 1))
+      stops-9 : s .open ≡ 0 → Acted text ks xs ys entries s (stoppedOf s 9 (s .lines + 1))
       stops-9 h = refuses 9 (λ (z : _≡_ {A = ℕ} 9 0). omega arith) (λ cs gs o c. go cs gs o)
         where
           go : (cs : List Sided) (hs : List Goal) → s .open ≡ length hs → refusal (rows (inSteps T cs (s .steps) hs) (saying l)) ≡ 9
@@ -141,24 +145,27 @@ module _ (text ks xs ys : List ℕ) (entries : ℕ) (s : State) (v : Ready text 
           go cs (x ∷ hs) q = absurd (omega arith)
 
       -- with a goal open, on which the line turns
-      module _ (some : s .open ≡ 0 → ⊥) (u : Turn) (d : (cs : List Sided) → Shows (s .goal) cs → Turned T entries l cs (records (s .goal)) (s .open - 1) u) where
+      module _ (some : s .open ≡ 0 → ⊥) (u : Turn) (d : TurnAt T entries l (s .goal) (s .open - 1) u) where
         -- the line's turn at the current goal x, with those of hs waiting
         turn-here : (x : Goal) (hs : List Goal) → s .open ≡ suc (length hs) → Shows (s .goal) x → Turned T entries l x (records (s .goal)) (length hs) u
-        turn-here x hs q c = let b : s .open - 1 ≡ length hs = omega arith in subst (λ (k : ℕ). Turned T entries l x (records (s .goal)) k u) b (d x c)
+        turn-here x hs q c = let b : s .open - 1 ≡ length hs = omega arith in subst (λ (k : ℕ). Turned T entries l x (records (s .goal)) k u) b (d .turned x c)
 
         rows-here : (cs : List Sided) (x : Goal) (hs : List Goal) → s .open ≡ suc (length hs) → Shows (s .goal) x → refusal (rows (inSteps T cs (s .steps) (x ∷ hs)) (saying l)) ≡ u .number
         rows-here cs x hs q c =
             rows-turn T entries long-table (v .columns .few) l t (word .0) (word .1) cs (s .steps) x hs (lt-ltb (s .steps) 1024 room) ∙ sym (turn-here x hs q c .number)
 
-        pub stops-turn : (u .number ≡ 0 → ⊥) → Acted text ks xs ys entries s (stoppedOf s (u .number) (s .lines + 1))
-        stops-turn z = refuses (u .number) z go
+        stops-turn : (k : ℕ) → u .number ≡ suc k → Acted text ks xs ys entries s (stoppedOf s (suc k) (s .lines + 1))
+        stops-turn k z = refuses (suc k) (λ (e : suc k ≡ 0). omega arith) go
           where
-            go : (cs : List Sided) (hs : List Goal) → s .open ≡ length hs → Current (s .goal) hs → refusal (rows (inSteps T cs (s .steps) hs) (saying l)) ≡ u .number
+            go : (cs : List Sided) (hs : List Goal) → s .open ≡ length hs → Current (s .goal) hs → refusal (rows (inSteps T cs (s .steps) hs) (saying l)) ≡ suc k
             go cs [] q c = absurd (some q)
-            go cs (x ∷ hs) q c = rows-here cs x hs q c
+            go cs (x ∷ hs) q c = rows-here cs x hs q c ∙ z
 
         -- the line passes: the goals that are open are its premises and those that wait
-        module _ (z : u .number ≡ 0) (mk : Makes u (s .goal)) where
+        module _ (z : u .number ≡ 0) where
+          mk : Makes u (s .goal)
+          mk = d .makes z .0
+
           -- the verdict behind the line, with these goals open
           abbrev behind-line : List Sided → List Goal → Verdict
           behind-line cs gs = judge (s .lines + 1) (inSteps T cs (s .steps + 1) gs) (linesOf (drop to text))
@@ -193,7 +200,7 @@ module _ (text ks xs ys : List ℕ) (entries : ℕ) (s : State) (v : Ready text 
           abbrev onto : Act
           onto = passedOf s u (s .lines + 1) to 0 0 0 (s .open)
 
-          pub goes-one : u .opens ≡ 1 → Acted text ks xs ys entries s onto
+          goes-one : u .opens ≡ 1 → Acted text ks xs ys entries s onto
           goes-one h = record {
             makes = (v .small, mk, λ e. absurd (not-1 e));
             fetches = λ e. absurd (not-2 e);
@@ -208,7 +215,7 @@ module _ (text ks xs ys : List ℕ) (entries : ℕ) (s : State) (v : Ready text 
               at : (g : Records) → records g ≡ premiseAt 0 u (records (s .goal)) → (cs : List Sided) (x : Goal) (hs ps : List Goal) → Leaves (records (s .goal)) u ps
                   → whole cs (x ∷ hs) ≡ behind-line cs (ps ++ hs) → Acts T cs text s onto (afterOf s onto g) (x ∷ hs)
               at g sg cs x hs [] (none o) e = absurd (omega (arith, o, h))
-              at g sg cs x hs (y ∷ []) (one k o sy) e = Acting.carries x y hs refl (v .going) refl refl (sg ∙ sy) e
+              at g sg cs x hs (y ∷ []) (one k o sy) e = Leading.carries x y hs refl (v .going) refl refl (sg ∙ sy) e
               at g sg cs x hs (y ∷ y′ ∷ []) (two a b o sa sb) e = absurd (omega (arith, o, h))
 
               go : (g : Records) → records g ≡ premiseAt 0 u (records (s .goal)) → (cs : List Sided) (gs : List Goal) → s .open ≡ length gs → Current (s .goal) gs
@@ -224,19 +231,22 @@ module _ (text ks xs ys : List ℕ) (entries : ℕ) (s : State) (v : Ready text 
           abbrev Sized : Records → Type 0
           Sized g = g .count ≡ u .kept + length (getD (added (u .leaves) (u .first) (u .second)) 0 [])
 
-          pub goes-two : u .opens ≡ 2 → s .open ≤ 16 → Acted text ks xs ys entries s apart
-          goes-two h few = record {
+          goes-two : u .opens ≡ 2 → Acted text ks xs ys entries s apart
+          goes-two h = record {
             makes = (v .small, mk, λ e. (omega (arith, some), few));
             fetches = λ e. absurd (one-not-2 e);
             leads = behind apart (λ g small sg.
                 let n = sg one-not-2 .1 in
                 record {
-                  ready = λ e. (again g (set (s .counts) (s .open - 1) (u .kept + 1)) (s .open + 1) small (length-set (s .counts) (s .open - 1) (u .kept + 1) ∙ v .slots) (sizes g small n) (omega arith), f .later);
-                  stores = λ e. (omega (arith, size-of g n), small, three, omega arith);
+                  ready = λ e. (again g (set (s .counts) (s .open - 1) (u .kept + 1)) (s .open + 1) small (length-set (s .counts) (s .open - 1) (u .kept + 1) ∙ v .slots) (sizes g small n) (omega (arith, few)), f .later);
+                  stores = λ e. (omega (arith, size-of g n), small, three, omega (arith, few));
                   acts = go g (sg one-not-2 .0) n;
                 });
           }
             where
+              few : s .open ≤ 16
+              few = omega (arith, d .makes z .1, h, some)
+
               one-not-2 : _≡_ {A = ℕ} 1 2 → ⊥
               one-not-2 e = omega arith
 
@@ -259,7 +269,7 @@ module _ (text ks xs ys : List ℕ) (entries : ℕ) (s : State) (v : Ready text 
               at g sg n cs x hs [] q (none o) e = absurd (omega (arith, o, h))
               at g sg n cs x hs (y ∷ []) q (one _ o sy) e = absurd (omega (arith, o, h))
               at g sg n cs x hs (y ∷ y′ ∷ []) q (two a b o sa sb) e =
-                  Acting.parts x y y′ hs refl (v .going) refl (ap (λ (k : ℕ). k * 64) q) (ap₂ (λ (k m : ℕ). set (s .counts) k m) q (sym (size-of g n))) (sg ∙ sa) sb e
+                  Leading.parts x y y′ hs refl (v .going) refl (ap (λ (k : ℕ). k * 64) q) (ap₂ (λ (k m : ℕ). set (s .counts) k m) q (sym (size-of g n))) (sg ∙ sa) sb e
 
               go : (g : Records) → records g ≡ premiseAt 0 u (records (s .goal)) → Sized g → (cs : List Sided) (gs : List Goal) → s .open ≡ length gs → Current (s .goal) gs
                   → Acts T cs text s apart (afterOf s apart g) gs
@@ -273,7 +283,7 @@ module _ (text ks xs ys : List ℕ) (entries : ℕ) (s : State) (v : Ready text 
           abbrev back : Act
           back = takenOf s u (s .lines + 1) to
 
-          pub goes-none : u .opens ≡ 0 → Acted text ks xs ys entries s (closedOf s u (s .lines + 1) to)
+          goes-none : u .opens ≡ 0 → Acted text ks xs ys entries s (closedOf s u (s .lines + 1) to)
           goes-none h = by (ℕ-discrete (s .open - 1) 0)
             where
               closed-at : (cs : List Sided) (x : Goal) (hs ps : List Goal) → Leaves (records (s .goal)) u ps → whole cs (x ∷ hs) ≡ behind-line cs (ps ++ hs)
@@ -287,7 +297,7 @@ module _ (text ks xs ys : List ℕ) (entries : ℕ) (s : State) (v : Ready text 
 
               last : (g : Records) → s .open - 1 ≡ 0 → (cs : List Sided) (gs : List Goal) → s .open ≡ length gs → Current (s .goal) gs → Acts T cs text s done (afterOf s done g) gs
               last g e cs [] q c = absurd (some q)
-              last g e cs (x ∷ []) q c = Acting.closes x refl (v .going) e (left cs x [] q c)
+              last g e cs (x ∷ []) q c = Leading.closes x refl (v .going) e (left cs x [] q c)
               last g e cs (x ∷ y ∷ hs) q c = absurd (omega arith)
 
               fetch : (g : Records) → (s .open - 1 ≡ 0 → ⊥) → (cs : List Sided) (gs : List Goal) → s .open ≡ length gs → Current (s .goal) gs
@@ -296,7 +306,7 @@ module _ (text ks xs ys : List ℕ) (entries : ℕ) (s : State) (v : Ready text 
               fetch g e cs (x ∷ []) q c = absurd (e (omega arith))
               fetch g e cs (x ∷ y ∷ hs) q c =
                   let k : s .open - 1 - 1 ≡ length hs = omega arith in
-                  Acting.takes x y hs refl (v .going) refl (ap (λ (n : ℕ). n * 64) k) (ap (λ (n : ℕ). getD (s .counts) n 0) k) refl (left cs x (y ∷ hs) q c)
+                  Leading.takes x y hs refl (v .going) refl (ap (λ (n : ℕ). n * 64) k) (ap (λ (n : ℕ). getD (s .counts) n 0) k) refl (left cs x (y ∷ hs) q c)
 
               by : Dec (s .open - 1 ≡ 0) → Acted text ks xs ys entries s (closedOf s u (s .lines + 1) to)
               by (yes e) =
@@ -323,3 +333,21 @@ module _ (text ks xs ys : List ℕ) (entries : ℕ) (s : State) (v : Ready text 
                           acts = fetch g e;
                         });
                   })
+
+        goes-by : (k n : ℕ) → u .number ≡ k → u .opens ≡ n → Acted text ks xs ys entries s (turnedBy s u to k n)
+        goes-by zero zero z h = goes-none z h
+        goes-by zero (suc zero) z h = goes-one z h
+        goes-by zero (suc (suc n)) z h = goes-two z (omega (arith, h, d .few))
+        goes-by (suc k) n z h = stops-turn k z
+
+  -- the act at the state s leads to the state behind it
+  pub acted : (a : Act) → ActAt T entries s (readAt text (s .at) 2) a → Acted text ks xs ys entries s a
+  acted a d = go (readAt text (s .at) 2) refl a d
+    where
+      go : (n : Read) → readAt text (s .at) 2 ≡ n → (b : Act) → ActAt T entries s n b → Acted text ks xs ys entries s b
+      go Bad e _ Acting.bad = stops-bad (when-bad text (s .at) 2 e)
+      go End e _ (Acting.short h) = stops-open (when-end text (s .at) 2 e) h
+      go End e _ (Acting.done h) = stops-proved (when-end text (s .at) 2 e) h
+      go (Found l to) e _ (Acting.many h) = stops-5 l to (when-found text (s .at) 2 l to e) h
+      go (Found l to) e _ (Acting.late r h) = stops-9 l to (when-found text (s .at) 2 l to e) r h
+      go (Found l to) e _ (Acting.turns u r h w) = goes-by l to (when-found text (s .at) 2 l to e) r (λ (z : s .open ≡ 0). omega (arith, z, h)) u w (u .number) (u .opens) refl refl

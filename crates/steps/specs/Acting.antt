@@ -1,21 +1,25 @@
--- What a line does where a derivation stands: to the goals that are open, and to the verdict from there on.
+-- Where a derivation stands so that a line can be read: the verdict from there on, and which act the line is.
 -- Assumes nothing.
-use Prim.Native.Nat.{ℕ, _+_, _-_, _*_, _≤_, _<_}
-use mathlib.Core.Bool.{true, false}
-use mathlib.Core.List.{List, [], _∷_, map}
+use Prim.Native.Nat.{ℕ, zero, suc, _+_, _-_, _≤_, _<_}
+use mathlib.Core.Bool.{false}
+use mathlib.Core.List.{List, [], _∷_}
 use mathlib.Core.Path.{_≡_}
-use lib.ListN.{length, getD, set, drop}
+use lib.ListN.{length, getD, drop}
 use Rattle.lines.specs.Text.{linesOf}
+use Rattle.lines.specs.declared.Line.{Line}
+use Rattle.lines.specs.declared.Next.{Next}
+use Rattle.lines.specs.declared.Next.the-variants.{Found, Bad, End}
 use Rattle.alc.specs.Table.{Table}
 use Rattle.alc.specs.Claims.{Sided, Goal}
-use Rattle.alc.specs.Shown.{recordOf, Shows, tableOf}
+use Rattle.alc.specs.Shown.{Shows}
 use Rattle.alc.specs.Verdict.{Verdict, judge}
 use Rattle.alc.specs.declared.Goal.{Goal as Records}
-use Rattle.goals.specs.Records.{Makes}
+use Rattle.goals.specs.declared.Turn.{Turn}
 use Rattle.heading.specs.Parts.{Columns, inSteps}
-use Rattle.states.specs.Standing.{secondOf, afterOf, After, verdictIn}
+use Rattle.states.specs.Standing.{stoppedOf, passedOf, partedOf, closedOf}
 use Rattle.states.specs.declared.State.{State}
 use Rattle.states.specs.declared.Act.{Act}
+use Rattle.steps.specs.Turning.{TurnAt}
 
 -- the columns have n places or more
 abbrev pub Fits : List ℕ → List ℕ → List ℕ → ℕ → Type 0
@@ -42,35 +46,21 @@ Current g (h ∷ hs) = Shows g h
 abbrev pub from : Table → List Sided → List ℕ → State → List Goal → Verdict
 from T cs text s gs = judge (s .lines) (inSteps T cs (s .steps) gs) (linesOf (drop (s .at) text))
 
--- what a line does with the goals gs open, where n is the state behind it: the verdict is there; or the judge goes on with a premise; with two, of
--- which one is stored; with none, and that was the last goal; or with the goal that is fetched
-pub data Acts (T : Table) (cs : List Sided) (text : List ℕ) (s : State) (a : Act) (n : State) : List Goal → Type 0 where
-  stops : (gs : List Goal) → a .kind ≡ 0 → n .ended ≡ true → verdictIn n ≡ from T cs text s gs → Acts T cs text s a n gs
-  carries : (h k : Goal) (hs : List Goal) → a .kind ≡ 0 → n .ended ≡ false → n .open ≡ s .open → n .counts ≡ s .counts → Shows (n .goal) k
-      → from T cs text s (h ∷ hs) ≡ from T cs text n (k ∷ hs) → Acts T cs text s a n (h ∷ hs)
-  parts : (h k l : Goal) (hs : List Goal) → a .kind ≡ 1 → n .ended ≡ false → n .open ≡ s .open + 1 → a .base ≡ length hs * 64
-      → n .counts ≡ set (s .counts) (length hs) (n .goal .count) → Shows (n .goal) k → secondOf s a ≡ map recordOf l
-      → from T cs text s (h ∷ hs) ≡ from T cs text n (k ∷ l ∷ hs) → Acts T cs text s a n (h ∷ hs)
-  closes : (h : Goal) → a .kind ≡ 0 → n .ended ≡ false → n .open ≡ 0 → from T cs text s (h ∷ []) ≡ from T cs text n [] → Acts T cs text s a n (h ∷ [])
-  takes : (h k : Goal) (hs : List Goal) → a .kind ≡ 2 → n .ended ≡ false → n .open ≡ s .open - 1 → a .base ≡ length hs * 64
-      → a .count ≡ getD (s .counts) (length hs) 0 → n .counts ≡ s .counts → from T cs text s (h ∷ k ∷ hs) ≡ from T cs text n (k ∷ hs)
-      → Acts T cs text s a n (h ∷ k ∷ hs)
+-- the act of a step with the turn t, with the text read up to a position: by the number of its row that fails, 0 where none does, and by how many
+-- premises it leaves
+abbrev pub turnedBy : State → Turn → ℕ → ℕ → ℕ → Act
+turnedBy s t to zero zero = closedOf s t (s .lines + 1) to
+turnedBy s t to zero (suc zero) = passedOf s t (s .lines + 1) to 0 0 0 (s .open)
+turnedBy s t to zero (suc (suc n)) = partedOf s t (s .lines + 1) to
+turnedBy s t to (suc k) n = stoppedOf s (suc k) (s .lines + 1)
 
--- n is a state behind the act a at the state s: its goal is the first premise, or, where one is fetched, any goal
-pub record Next (s : State) (a : Act) (n : State) : Type 0 where
-  pub is : n ≡ afterOf s a (n .goal)
-  pub small : n .goal .count ≤ 64
-  pub premise : (a .kind ≡ 2 → ⊥) → After s a n
-
--- what the act a comes to, where n is the state behind it: where it goes on it goes on behind the line; what it stores is within the room; and what
--- it does to the goals
-pub record Leads (text ks xs ys : List ℕ) (entries : ℕ) (s : State) (a : Act) (n : State) : Type 0 where
-  pub ready : n .ended ≡ false → Ready text ks xs ys entries n × (s .at < n .at)
-  pub stores : a .kind ≡ 1 → (0 < n .goal .count) × (n .goal .count ≤ 64) × (3 ≤ a .turn .leaves) × (a .base + 64 ≤ 1088)
-  pub acts : (cs : List Sided) (gs : List Goal) → s .open ≡ length gs → Current (s .goal) gs → Acts (tableOf ks xs ys entries) cs text s a n gs
-
--- an act at the state s: the state behind it can be made, what it fetches is within the room, and it leads to the state behind it
-pub record Acted (text ks xs ys : List ℕ) (entries : ℕ) (s : State) (a : Act) : Type 0 where
-  pub makes : (s .goal .count ≤ 64) × Makes (a .turn) (s .goal) × (a .kind ≡ 1 → (0 < s .open) × (s .open ≤ 16))
-  pub fetches : a .kind ≡ 2 → (a .count ≤ 64) × (a .base + 64 ≤ 1088)
-  pub leads : (n : State) → Next s a n → Leads text ks xs ys entries s a n
+-- the act at the state s, by what stands at its position: a bad line; the end, with a goal open or with none; a step past the 1,024th, or with no goal
+-- open; or a step that turns on the current goal
+pub data ActAt (T : Table) (entries : ℕ) (s : State) : Next → Act → Type 0 where
+  bad : ActAt T entries s Bad (stoppedOf s 2 (s .lines + 1))
+  short : 0 < s .open → ActAt T entries s End (stoppedOf s 12 (s .lines + 1))
+  done : s .open ≡ 0 → ActAt T entries s End (stoppedOf s 0 (s .lines))
+  many : {l : Line} {to : ℕ} → 1024 ≤ s .steps → ActAt T entries s (Found l to) (stoppedOf s 5 (s .lines + 1))
+  late : {l : Line} {to : ℕ} → s .steps < 1024 → s .open ≡ 0 → ActAt T entries s (Found l to) (stoppedOf s 9 (s .lines + 1))
+  turns : {l : Line} {to : ℕ} (t : Turn) → s .steps < 1024 → 0 < s .open → TurnAt T entries l (s .goal) (s .open - 1) t
+      → ActAt T entries s (Found l to) (turnedBy s t to (t .number) (t .opens))

@@ -11,15 +11,13 @@ use lines::Next;
 use states::Act;
 use states::State;
 ghost use mathlib.Core.Path.{_≡_};
-ghost use mathlib.Core.List.{List};
-ghost use Prim.Native.Nat.{_+_, _-_, _<_, _≤_, _%_};
-ghost use Rattle.alc.specs.Claims.{Sided};
+ghost use Prim.Native.Nat.{_-_, _<_, _≤_, _%_};
+ghost use Rattle.lines.specs.Text.{readAt};
 ghost use Rattle.alc.specs.Table.{entry, entryOf};
-ghost use Rattle.alc.specs.Shown.{kindAt, tableOf, records, Shows as ShowsGoal};
-ghost use Rattle.goals.specs.Records.{Makes};
+ghost use Rattle.alc.specs.Shown.{kindAt, tableOf};
 ghost use Rattle.heading.specs.Parts.{Columns};
-ghost use Rattle.steps.specs.Turning.{Turned};
-ghost use Rattle.steps.specs.Acting.{Fits, Ready, Acted};
+ghost use Rattle.steps.specs.Turning.{TurnAt};
+ghost use Rattle.steps.specs.Acting.{Fits, Ready, ActAt};
 
 // The entry of number i in a table of so many, and `top` past its end: the second field of `id-link` is a name, which no rule looks up.
 fn entry_at(kinds: &[u8], firsts: &[u8], seconds: &[u8], entries: usize, i: usize) -> Entry
@@ -64,7 +62,7 @@ fn turn_at(
     waiting: usize,
 ) -> Turn
     requires { ⌜ Columns (now kinds) (now firsts) (now seconds) entries × Fits (now kinds) (now firsts) (now seconds) entries × (13 ≤ l .word) × (l .word < 32) × (g .count ≤ 64) × (waiting ≤ 16) ⌝ }
-    ensures { λ r. ⌜ (((cs : List Sided) → ShowsGoal g cs → Turned (tableOf (now (kinds .entry)) (now (firsts .entry)) (now (seconds .entry)) entries) entries l cs (records g) waiting r) × (r .number ≡ 0 → Makes r g × (r .opens + waiting ≤ 17)) × (r .opens ≤ 2)) ⌝ }
+    ensures { λ r. ⌜ TurnAt (tableOf (now (kinds .entry)) (now (firsts .entry)) (now (seconds .entry)) entries) entries l g waiting r ⌝ }
 {
     if !heading::ranged(l, entries, 0) {
         let none = alc::is(0, Name(0), Concept(0));
@@ -94,7 +92,7 @@ pub fn act_at(
     s: State,
 ) -> Act
     requires { ⌜ Ready (now text) (now kinds) (now firsts) (now seconds) entries s ⌝ }
-    ensures { λ r. ⌜ Acted (now (text .entry)) (now (kinds .entry)) (now (firsts .entry)) (now (seconds .entry)) entries s r ⌝ }
+    ensures { λ r. ⌜ ActAt (tableOf (now (kinds .entry)) (now (firsts .entry)) (now (seconds .entry)) entries) entries s (readAt (now (text .entry)) (s .at) 2) r ⌝ }
 {
     let line = s.lines + 1;
     match reading::read(text, s.at, 2) {

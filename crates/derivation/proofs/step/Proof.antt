@@ -23,7 +23,9 @@ use Rattle.alc.specs.declared.Goal.{Goal}
 use Rattle.states.specs.Standing.{afterOf, After, Aside}
 use Rattle.states.specs.declared.State.{State}
 use Rattle.states.specs.declared.Act.{Act}
-use Rattle.steps.specs.Acting.{Ready, Next, Leads, Acted}
+use Rattle.steps.specs.Acting.{Ready}
+use Rattle.steps.proofs.Leading.{Next, Leads, Acted}
+use Rattle.steps.proofs.StepWalk.{acted}
 use Rattle.derivation.specs.Waiting.{Stepped}
 use Rattle.derivation.proofs.Covered as F
 use Rattle.derivation.proofs.Tables as C
@@ -100,24 +102,24 @@ module _ (w : World) (store : Knows (fun RC.store) w code.env) (fetch : Knows (f
   unfolding body
   met κs qs (room, (text, (kinds, (firsts, (seconds, (entries, (s, _))))))) good pre bs = (
     λ _. pre .1,
-    λ a. (
+    λ a. let d : Acted (text .now) (kinds .now) (firsts .now) (seconds .now) entries s (a .1) = acted (text .now) (kinds .now) (firsts .now) (seconds .now) entries s (pre .1) (a .1) (a .5) in (
       λ _. tt,
       λ k. (
         tt,
         (
           λ test. let is1 : a .1 .kind ≡ 1 = sym (k .5) ∙ eqb-true (k .1) 1 test in (
-            λ _. a .5 .makes,
+            λ _. d .makes,
             λ next γ. (
               refl,
               (
                 λ _. tt,
                 λ base. (
-                  λ _. second (text .now) (kinds .now) (firsts .now) (seconds .now) entries (room .now) s pre (a .1) (a .5) (next .1) (next .5) is1,
+                  λ _. second (text .now) (kinds .now) (firsts .now) (seconds .now) entries (room .now) s pre (a .1) d (next .1) (next .5) is1,
                   λ g. (
-                    λ _. place (text .now) (kinds .now) (firsts .now) (seconds .now) entries (room .now) s pre (a .1) (a .5) (next .1) (next .5) is1 (base .1) (g .1) (base .5) (g .5),
+                    λ _. place (text .now) (kinds .now) (firsts .now) (seconds .now) entries (room .now) s pre (a .1) d (next .1) (next .5) is1 (base .1) (g .1) (base .5) (g .5),
                     λ st. (
                       refl,
-                      λ same. ((same-len room (st .2 .0) same, (refl, (refl, (refl, (refl, (tt, (tt, tt))))))), storing (text .now) (kinds .now) (firsts .now) (seconds .now) entries (room .now) s pre (a .1) (a .5) (next .1) (next .5) is1 (base .1) (g .1) (st .2 .0) (base .5) (g .5) (st .5)),
+                      λ same. ((same-len room (st .2 .0) same, (refl, (refl, (refl, (refl, (tt, (tt, tt))))))), storing (text .now) (kinds .now) (firsts .now) (seconds .now) entries (room .now) s pre (a .1) d (next .1) (next .5) is1 (base .1) (g .1) (st .2 .0) (base .5) (g .5) (st .5)),
                     ),
                   ),
                 ),
@@ -135,18 +137,18 @@ module _ (w : World) (store : Knows (fun RC.store) w code.env) (fetch : Knows (f
                       λ base. (
                         λ _. tt,
                         λ n. (
-                          λ _. part (text .now) (kinds .now) (firsts .now) (seconds .now) entries (room .now) s pre (a .1) (a .5) is2 (base .1) (n .1) (base .5) (n .5),
+                          λ _. part (text .now) (kinds .now) (firsts .now) (seconds .now) entries (room .now) s pre (a .1) d is2 (base .1) (n .1) (base .5) (n .5),
                           λ f. (
                             λ _ is1. absurd (not1 is1),
-                            λ r. ((refl, (refl, (refl, (refl, (refl, (tt, (tt, tt))))))), fetching (text .now) (kinds .now) (firsts .now) (seconds .now) entries (room .now) s pre (a .1) (a .5) is2 (base .1) (n .1) (f .1) (r .1) (base .5) (n .5) (f .5) (r .5)),
+                            λ r. ((refl, (refl, (refl, (refl, (refl, (tt, (tt, tt))))))), fetching (text .now) (kinds .now) (firsts .now) (seconds .now) entries (room .now) s pre (a .1) d is2 (base .1) (n .1) (f .1) (r .1) (base .5) (n .5) (f .5) (r .5)),
                           ),
                         ),
                       ),
                     ),
                   ),
               λ test′. let not2 : a .1 .kind ≡ 2 → ⊥ = λ (e : a .1 .kind ≡ 2). eqb-false (k .1) 2 test′ (k .5 ∙ e) in (
-                λ _. a .5 .makes,
-                λ next. ((refl, (refl, (refl, (refl, (refl, (tt, (tt, tt))))))), resting (text .now) (kinds .now) (firsts .now) (seconds .now) entries (room .now) s pre (a .1) (a .5) (next .1) (next .5) not1 not2),
+                λ _. d .makes,
+                λ next. ((refl, (refl, (refl, (refl, (refl, (tt, (tt, tt))))))), resting (text .now) (kinds .now) (firsts .now) (seconds .now) entries (room .now) s pre (a .1) d (next .1) (next .5) not1 not2),
               ),
             ),
           ),

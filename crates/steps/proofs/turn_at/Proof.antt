@@ -25,7 +25,11 @@ T s = tableOf (now (s .args .kinds)) (now (s .args .firsts)) (now (s .args .seco
 returns : tie.Need-returns
 returns c =
     let t = c .before in
-    ((λ cs h. turned-3 _ _ _ cs _ _ _ (sym (t .before .ranged .ensures) ∙ not-true _ (t .if1 .taken)) refl), (λ (e : _≡_ {A = ℕ} 3 0). absurd (omega arith)), omega arith)
+    record {
+      turned = λ cs h. turned-3 _ _ _ cs _ _ _ (sym (t .before .ranged .ensures) ∙ not-true _ (t .if1 .taken)) refl;
+      makes = λ (e : _≡_ {A = ℕ} 3 0). absurd (omega arith);
+      few = omega arith;
+    }
 
 made-step-requires : tie.Need-made-step-requires
 made-step-requires c κs = search needs
@@ -47,14 +51,15 @@ returns-2 c =
     let m = c .before .before .before in
     let r = m .before .before in
     let s = r .before .before .before .before in
-    let t = c .turn-of .ensures in (
-      (λ cs h.
+    let t = c .turn-of .ensures in
+    record {
+      turned = λ cs h.
           turned (T s) _ _ cs _ _ _ (sym (r .ranged .ensures) ∙ not-false _ (m .before .if1 .left))
           (subst (λ (q : Step). Turns (plan (T s) (stepOf (q .rule) (q .x) (q .y) (q .z))) cs (records (s .args .g)) (s .args .waiting) (c .turn-of .result)) (m .made-step .ensures)
-          (t .0 (T s) cs (c .before .entry-at .ensures .0) h))),
-      t .1,
-      t .2,
-    )
+          (t .0 (T s) cs (c .before .entry-at .ensures .0) h));
+      makes = t .1;
+      few = t .2;
+    }
 
 pub turn-at-spec : {M : Type 1} → statement M
 turn-at-spec =
