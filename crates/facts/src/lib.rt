@@ -6,7 +6,11 @@ use alc::Element;
 use alc::Goal;
 use alc::Name;
 use alc::Role;
+use lines::AT_SIZE;
+use lines::HAS;
+use lines::IN_FACTS;
 use lines::Line;
+use lines::NAME;
 use lines::Next;
 ghost use mathlib.Core.Path.{_≡_};
 ghost use mathlib.Core.List.{List, []};
@@ -32,10 +36,10 @@ fn store(l: Line, places: &mut [u8; 64], atoms: &mut [u32; 64], edges: &mut [u32
 {
     let x = (l.n0 % 256) as u8;
     let y = (l.n1 % 256) as u8;
-    if l.word == 33 {
+    if l.word == NAME {
         return models::set_place(places, Name(x), Element(y));
     }
-    if l.word == 34 {
+    if l.word == HAS {
         return models::set_atom(atoms, Atom(x), Element(y));
     }
     let z = (l.n2 % 256) as u8;
@@ -66,7 +70,7 @@ fn read_facts(
     let mut at = start;
     let mut n = before;
     loop {
-        match reading::read(text, at, 4) {
+        match reading::read(text, at, IN_FACTS) {
             Next::Found(l, next) => {
                 if !heading::ranged(l, entries, size) {
                     return Heard {
@@ -199,7 +203,7 @@ pub fn judge_model(
     requires { ⌜ Asked (now text) start before (now kinds) (now firsts) (now seconds) entries claims ⌝ }
     ensures { λ r. ⌜ ((cs : List Sided) → Shows claims cs → answered r ≡ judge before (atStart (tableOf (now (kinds .entry)) (now (firsts .entry)) (now (seconds .entry)) entries) cs) (linesOf (drop start (now (text .entry))))) ⌝ }
 {
-    match reading::read(text, start, 3) {
+    match reading::read(text, start, AT_SIZE) {
         Next::Found(l, next) => {
             if !heading::ranged(l, entries, 0) {
                 return Answer::Refused(3, before + 1);

@@ -6,6 +6,8 @@ use alc::Name;
 use goals::Entry;
 use goals::Step;
 use goals::Turn;
+use lines::ID;
+use lines::IN_STEPS;
 use lines::Line;
 use lines::Next;
 use states::Act;
@@ -44,7 +46,7 @@ fn made_step(l: Line) -> Step
     ensures { λ r. ⌜ r ≡ record { rule = l .word - 13; x = l .n0 % 256; y = l .n1 % 256; z = l .n2 % 256 } ⌝ }
 {
     Step {
-        rule: l.word - 13,
+        rule: l.word - ID,
         x: (l.n0 % 256) as u8,
         y: (l.n1 % 256) as u8,
         z: (l.n2 % 256) as u8,
@@ -95,7 +97,7 @@ pub fn act_at(
     ensures { λ r. ⌜ ActAt (tableOf (now (kinds .entry)) (now (firsts .entry)) (now (seconds .entry)) entries) entries s (readAt (now (text .entry)) (s .at) 2) r ⌝ }
 {
     let line = s.lines + 1;
-    match reading::read(text, s.at, 2) {
+    match reading::read(text, s.at, IN_STEPS) {
         Next::Found(l, next) => {
             if s.steps >= 1024 {
                 return states::stopped(s, 5, line);
