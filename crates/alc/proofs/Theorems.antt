@@ -9,7 +9,7 @@ use lib.ListN.{length}
 use Rattle.lines.specs.Text.{linesOf}
 use Rattle.alc.specs.Lists.{All, every, elem}
 use Rattle.alc.specs.Meaning.{Interp}
-use Rattle.alc.specs.Table.{Table, Kind, entryOf, entry, entryFields}
+use Rattle.alc.specs.Table.{Table, Kind, entryOf, entry, entryFields, treeOf}
 use Rattle.alc.specs.Claims.{Sided, Goal, is, left, right, has, holds, Valid}
 use Rattle.alc.specs.Rules
 use Rattle.alc.specs.Rules.{Step, stepFields, plan}
@@ -20,7 +20,7 @@ use Rattle.alc.specs.Verdict.{proved, refuted, refused, State, rows, ver
 use Rattle.alc.specs.Known as Dossiers
 use Rattle.alc.specs.Slide.{Rule, Is, _∋_, _∉_}
 use Rattle.alc.specs.Derivation.{Derives, Works}
-use Rattle.alc.specs.Reading.{InRange, GoodTable, ReadsProof, ReadsModel, ReadsUpTo, lineOf}
+use Rattle.alc.specs.Reading.{InRange, GoodTable, ReadsProof, ReadsModel, Evidence, Reads, ReadsUpTo, lineOf}
 use Rattle.alc.specs.Accepts.{Proves, Against, Falsifies, Fails}
 use Rattle.alc.specs.Refusal.{order, within, First, Refuses}
 use Rattle.alc.proofs.Known
@@ -29,6 +29,7 @@ use Rattle.alc.proofs.Derive
 use Rattle.alc.proofs.Passing
 use Rattle.alc.proofs.Verdicts
 use Rattle.alc.proofs.Numbered
+use Rattle.alc.proofs.Different
 use Rattle.alc.proofs.Meant
 use Rattle.alc.proofs.Ending
 use Rattle.alc.proofs.NotNew
@@ -88,6 +89,12 @@ never-both = Meant.never-both
 pub table-iff : (T : Table) → GoodTable T
     ↔ ((length T ≤ 256) × ((i : ℕ) → i < length T → InRange i 0 (entryFields (entry T i))) × ((i j : ℕ) → i < j → j < length T → entry T i ≢ entry T j))
 table-iff = Numbered.table-iff
+
+-- "so equal numbers mean equal concepts", and different numbers different ones: in the table that a text reads as, where
+-- what a line does not say is 0, no two lines have the same tree
+pub one-number : (text : List ℕ) (T : Table) (cs : List Sided) (x : Evidence) → Reads text T cs x → (i j : ℕ) → i < length T → j < length T → treeOf T i ≡ treeOf T j
+    → i ≡ j
+one-number = Different.one-number
 
 -- a text reads as one table and one list of claims
 pub one-reading : {text : List ℕ} {T U : Table} {cs ds : List Sided} {ss rs : List Step} → ReadsProof text T cs ss → ReadsProof text U ds rs → (T ≡ U) × (cs ≡ ds)

@@ -66,6 +66,16 @@ pub record ReadsModel (text : List ℕ) (T : Table) (cs : List Sided) (n : ℕ) 
   pub claims : GoodClaims T cs
   pub facts : GoodModel T n fs
 
+-- what stands behind the claims: the steps of a derivation, or the size of a model and what it says
+pub data Evidence : Type 0 where
+  a-derivation : List Step → Evidence
+  a-model : ℕ → List Fact → Evidence
+
+-- the text reads as the table T, the claims cs, and that
+abbrev pub Reads : List ℕ → Table → List Sided → Evidence → Type 0
+Reads text T cs (a-derivation ss) = ReadsProof text T cs ss
+Reads text T cs (a-model n fs) = ReadsModel text T cs n fs
+
 -- the text reads as far as the steps ss, which leave the goals gs open; then comes step s
 pub record ReadsUpTo (text : List ℕ) (T : Table) (cs : List Sided) (ss : List Step) (gs : List Goal) (s : Step) : Type 0 where
   pub behind : List Said
