@@ -96,9 +96,9 @@ pub one-number : (text : List ℕ) (T : Table) (cs : List Sided) (x : Evidence) 
     → i ≡ j
 one-number = Different.one-number
 
--- a text reads as one table and one list of claims
-pub one-reading : {text : List ℕ} {T U : Table} {cs ds : List Sided} {ss rs : List Step} → ReadsProof text T cs ss → ReadsProof text U ds rs → (T ≡ U) × (cs ≡ ds)
-one-reading = Meant.one-proof
+-- a text reads in one way only: as one table, one list of claims, and the steps of one derivation or one model, never as both
+pub one-reading : (text : List ℕ) (T U : Table) (cs ds : List Sided) (x y : Evidence) → Reads text T cs x → Reads text U ds y → (T ≡ U) × (cs ≡ ds) × (x ≡ y)
+one-reading = Meant.one-reading
 
 -- THE RULES
 -- a step's row in the table of rules is the slide's rule: the same entry, claims and new name, the same premises
