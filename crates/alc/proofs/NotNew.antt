@@ -50,7 +50,7 @@ use Rattle.alc.proofs.Verdicts.{refused-iff}
 use Rattle.alc.proofs.Meant.{never-both}
 
 -- the rows before it are passed, and it is not
-pub first-at : (before : List Row) (k : ℕ) (b : Bool) (behind : List Row) → AllPassed before → b ≡ false → First k (before ++ (row k b ∷ behind))
+first-at : (before : List Row) (k : ℕ) (b : Bool) (behind : List Row) → AllPassed before → b ≡ false → First k (before ++ (row k b ∷ behind))
 first-at [] k b behind h e = subst (λ z. First k (row k z ∷ behind)) (sym e) here
 first-at (r ∷ before) k b behind h e = subst (λ z. First k (row (r .number) z ∷ (before ++ (row k b ∷ behind)))) (sym (h .0)) (later (first-at before k b behind (h .1) e))
 
@@ -79,7 +79,7 @@ cut-map f (a ∷ l) (x ∷ xs) y ys e =
     }
 
 -- a step is refused by the first of its rows that it does not pass
-pub step-refused : (room : ℕ) (text : List ℕ) (T : Table) (cs : List Sided) (ss : List Step) (gs : List Goal) (s : Step) (k : ℕ) → 1088 ≤ room
+step-refused : (room : ℕ) (text : List ℕ) (T : Table) (cs : List Sided) (ss : List Step) (gs : List Goal) (s : Step) (k : ℕ) → 1088 ≤ room
     → ReadsUpTo text T cs ss gs s → First k (stepRows T (length ss) gs s) → verdict room text ≡ refused k (lineOf T cs ss)
 unfolding rows
 step-refused room text T cs ss gs s k h r f =
@@ -105,12 +105,18 @@ step-refused room text T cs ss gs s k h r f =
     refused-iff room text k (lineOf T cs ss) .1 (at-line h (r .short) bad)
 
 -- whichever the rule: where all before newness is in order and the names are not new, 8 is the first row that is not passed
-pub not-new : (T : Table) (n : ℕ) (g : Goal) (gs : List Goal) (s : Step) → n < 1024 → InRange (length T) 0 (stepFields s) → plan T s .asks ≡ true
+not-new : (T : Table) (n : ℕ) (g : Goal) (gs : List Goal) (s : Step) → n < 1024 → InRange (length T) 0 (stepFields s) → plan T s .asks ≡ true
     → every (has g) (plan T s .needs) ≡ true → areNew (plan T s .news) g ≡ false → First 8 (stepRows T n (g ∷ gs) s)
 unfolding stepRows
 not-new T n g gs s l r a h e =
     first-at (row 5 (ltb n 1024) ∷ row 9 true ∷ row 3 _ ∷ row 6 (plan T s .asks) ∷ row 7 (every (has g) (plan T s .needs)) ∷ []) 8 (areNew (plan T s .news) g) _
     (lt-ltb n 1024 l, (refl, (r, (a, (h, tt))))) e
+
+-- so the step is refused with 8 at its line
+pub not-new-refused : (room : ℕ) (text : List ℕ) (T : Table) (cs : List Sided) (ss : List Step) (g : Goal) (gs : List Goal) (s : Step) → 1088 ≤ room
+    → ReadsUpTo text T cs ss (g ∷ gs) s → length ss < 1024 → InRange (length T) 0 (stepFields s) → plan T s .asks ≡ true → every (has g) (plan T s .needs) ≡ true
+    → areNew (plan T s .news) g ≡ false → verdict room text ≡ refused 8 (lineOf T cs ss)
+not-new-refused room text T cs ss g gs s h r l q a n e = step-refused room text T cs ss (g ∷ gs) s 8 h r (not-new T (length ss) g gs s l q a n e)
 
 -- a `some-l` whose name stands in the goal already
 pub some-l-refused : (room : ℕ) (text : List ℕ) (T : Table) (cs : List Sided) (ss : List Step) (g : Goal) (gs : List Goal) (a i b : ℕ) → 1088 ≤ room
@@ -118,8 +124,7 @@ pub some-l-refused : (room : ℕ) (text : List ℕ) (T : Table) (cs : List Sided
     → g ∋ left (is a i) → (b ∉ g → ⊥) → verdict room text ≡ refused 8 (lineOf T cs ss)
 unfolding plan
 some-l-refused room text T cs ss g gs a i b h r l q k n o =
-    step-refused room text T cs ss (g ∷ gs) (Rules.some-l a i b) 8 h r
-    (not-new T (length ss) g gs (Rules.some-l a i b) l q k (rw n) (is-false (areNew (b ∷ []) g) (λ e. o (unnamed b g e))))
+    not-new-refused room text T cs ss g gs (Rules.some-l a i b) h r l q k (rw n) (is-false (areNew (b ∷ []) g) (λ e. o (unnamed b g e)))
 
 -- K6's SENTENCE: `atom 0`, `some 0 0`, `left is 0 1`, `right is 0 0`
 abbrev giftTable : Table

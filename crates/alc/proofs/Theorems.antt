@@ -13,7 +13,7 @@ use Rattle.alc.specs.Table.{Table, Kind, entryOf, entry, entryFields, tr
 use Rattle.alc.specs.Claims.{Sided, Goal, is, left, right, has, holds, Valid}
 use Rattle.alc.specs.Rules
 use Rattle.alc.specs.Rules.{Step, stepFields, plan}
-use Rattle.alc.specs.Goals.{areNew, premises, stepRows}
+use Rattle.alc.specs.Goals.{areNew, premises}
 use Rattle.alc.specs.Model.{Fact}
 use Rattle.alc.specs.Dossier.{Said}
 use Rattle.alc.specs.Verdict.{proved, refuted, refused, State, rows, verdict}
@@ -115,16 +115,18 @@ pub rule-sound : (T : Table) → GoodTable T → (g : Goal) (s : Step) (ps : Lis
 rule-sound = Meant.rule-sound
 
 -- NEW NAMES
--- a `some-l` whose name stands in its goal already is refused with 8 at its line, whatever was read before and comes behind
+-- whichever the step: where all that is tested before newness is in order (no 1,025th step, a goal open, fields in range, the entry of its kind, the
+-- claims there) and its names are not new, it is refused with 8 at its line, whatever was read before and comes behind
+pub not-new-refused : (room : ℕ) (text : List ℕ) (T : Table) (cs : List Sided) (ss : List Step) (g : Goal) (gs : List Goal) (s : Step) → 1088 ≤ room
+    → ReadsUpTo text T cs ss (g ∷ gs) s → length ss < 1024 → InRange (length T) 0 (stepFields s) → plan T s .asks ≡ true → every (has g) (plan T s .needs) ≡ true
+    → areNew (plan T s .news) g ≡ false → verdict room text ≡ refused 8 (lineOf T cs ss)
+not-new-refused = NotNew.not-new-refused
+
+-- the case of the spring, in the slides' words: a `some-l` whose name stands in its goal already
 pub some-l-refused : (room : ℕ) (text : List ℕ) (T : Table) (cs : List Sided) (ss : List Step) (g : Goal) (gs : List Goal) (a i b : ℕ) → 1088 ≤ room
     → ReadsUpTo text T cs ss (g ∷ gs) (Rules.some-l a i b) → length ss < 1024 → InRange (length T) 0 (stepFields (Rules.some-l a i b)) → Is T i Kind.some
     → g ∋ left (is a i) → (b ∉ g → ⊥) → verdict room text ≡ refused 8 (lineOf T cs ss)
 some-l-refused = NotNew.some-l-refused
-
--- whichever the step: where all before newness is in order and its names are not new, 8 is the first row that is not passed
-pub not-new : (T : Table) (n : ℕ) (g : Goal) (gs : List Goal) (s : Step) → n < 1024 → InRange (length T) 0 (stepFields s) → plan T s .asks ≡ true
-    → every (has g) (plan T s .needs) ≡ true → areNew (plan T s .news) g ≡ false → First 8 (stepRows T n (g ∷ gs) s)
-not-new = NotNew.not-new
 
 -- no dossier proves K6's sentence, `atom 0`, `some 0 0`, `left is 0 1`, `right is 0 0`: K7 refutes it
 pub gift-unproved : (room n : ℕ) (text : List ℕ) (ss : List Step)
