@@ -10,7 +10,7 @@ use Rattle.lines.specs.Text.{linesOf}
 use Rattle.alc.specs.Lists.{All, every, elem}
 use Rattle.alc.specs.Meaning.{Interp}
 use Rattle.alc.specs.Table.{Table, Kind, entryOf, entry, entryFields, treeOf}
-use Rattle.alc.specs.Claims.{Sided, Goal, is, left, right, has, holds, Valid}
+use Rattle.alc.specs.Claims.{Sided, Goal, is, sub, link, left, right, has, holds, Valid}
 use Rattle.alc.specs.Rules
 use Rattle.alc.specs.Rules.{Step, stepFields, plan}
 use Rattle.alc.specs.Goals.{areNew, premises}
@@ -128,7 +128,9 @@ pub some-l-refused : (room : ℕ) (text : List ℕ) (T : Table) (cs : List Sided
     → g ∋ left (is a i) → (b ∉ g → ⊥) → verdict room text ≡ refused 8 (lineOf T cs ss)
 some-l-refused = NotNew.some-l-refused
 
--- no dossier proves K6's sentence, `atom 0`, `some 0 0`, `left is 0 1`, `right is 0 0`: K7 refutes it
+-- no dossier proves the spring's sentence, that of examples/gift-spring: `atom 0`, `atom 1`, `some 0 0`, `some 0 1`; `left sub 0 1`, `left link 0 0 1`,
+-- `left is 0 2`, `right is 1 1`. The text of examples/gift-world refutes it
 pub gift-unproved : (room n : ℕ) (text : List ℕ) (ss : List Step)
-    → ReadsProof text (entryOf Kind.atom 0 0 ∷ entryOf Kind.some 0 0 ∷ []) (left (is 0 1) ∷ right (is 0 0) ∷ []) ss → verdict room text ≡ proved n → ⊥
+    → ReadsProof text (entryOf Kind.atom 0 0 ∷ entryOf Kind.atom 1 0 ∷ entryOf Kind.some 0 0 ∷ entryOf Kind.some 0 1 ∷ [])
+    (left (sub 0 1) ∷ left (link 0 0 1) ∷ left (is 0 2) ∷ right (is 1 1) ∷ []) ss → verdict room text ≡ proved n → ⊥
 gift-unproved = NotNew.gift-unproved
