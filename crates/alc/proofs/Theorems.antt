@@ -6,7 +6,7 @@ use mathlib.Core.List.{List, [], _∷_, map}
 use mathlib.Core.Logic.{_↔_, _≢_}
 use mathlib.Core.Path.{_≡_}
 use lib.ListN.{length}
-use Rattle.lines.specs.Text.{linesOf}
+use Rattle.lines.specs.Text.{words, linesOf}
 use Rattle.alc.specs.Lists.{All, every, elem}
 use Rattle.alc.specs.Meaning.{Interp}
 use Rattle.alc.specs.Table.{Table, Kind, entryOf, entry, entryFields, treeOf}
@@ -15,7 +15,7 @@ use Rattle.alc.specs.Rules
 use Rattle.alc.specs.Rules.{Step, stepFields, plan}
 use Rattle.alc.specs.Goals.{areNew, premises}
 use Rattle.alc.specs.Model.{Fact}
-use Rattle.alc.specs.Dossier.{Said}
+use Rattle.alc.specs.Dossier.{Said, lexicon}
 use Rattle.alc.specs.Verdict.{proved, refuted, refused, State, rows, verdict}
 use Rattle.alc.specs.Known as Dossiers
 use Rattle.alc.specs.Slide.{Rule, Is, _∋_, _∉_}
@@ -27,6 +27,7 @@ use Rattle.alc.proofs.Known
 use Rattle.alc.proofs.Slides
 use Rattle.alc.proofs.Derive
 use Rattle.alc.proofs.Passing
+use Rattle.alc.proofs.Places
 use Rattle.alc.proofs.Verdicts
 use Rattle.alc.proofs.Numbered
 use Rattle.alc.proofs.Different
@@ -61,6 +62,10 @@ rows-in-order = Passing.in-order
 -- so a line is refused with one of their numbers: 14 and 1 come before the lines, 12 and 13 at the end only
 pub line-number : (S : State) (s : Said) (k : ℕ) → First k (rows S s) → elem k order ≡ true
 line-number = Passing.line-number
+
+-- the table of what the words say and the reading part's table of words have the same words in the same order
+pub words-as-said : (s x y z : ℕ) → map (λ r. r .word) (lexicon s x y z) ≡ map (λ r. r .word) words
+words-as-said = Places.words-as-said
 
 -- the dossiers with known verdicts have them
 pub known-verdicts : every Dossiers.asKnown Dossiers.known ≡ true
