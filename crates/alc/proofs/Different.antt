@@ -12,13 +12,12 @@ use Rattle.lines.specs.Text.{linesOf}
 use Rattle.lines.specs.declared.Item.{Item}
 use Rattle.lines.specs.declared.Item.the-variants.{Says, Wrong}
 use Rattle.alc.specs.Lists.{All}
-use Rattle.alc.specs.Ranges.{concepts}
 use Rattle.alc.specs.Meaning.{Tree}
 use Rattle.alc.specs.Table.{Table, Entry, Kind, entry, entryOf, fieldsBy, shape, treeOf}
 use Rattle.alc.specs.Claims.{Sided}
 use Rattle.alc.specs.Dossier.{Said, concept, claim, proof, model, step, size, fact, unread, sayings, saidBy}
 use Rattle.alc.specs.Reading.{GoodTable, Evidence, a-derivation, a-model, Reads}
-use Rattle.alc.proofs.Trees.{law, well-formed}
+use Rattle.alc.proofs.Trees.{concepts, law, well-formed}
 use Rattle.alc.proofs.Numbered.{All-at, table-iff}
 
 -- WHAT A LINE DOES NOT SAY

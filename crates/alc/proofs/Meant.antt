@@ -114,8 +114,8 @@ proved-valid room n text {T} {cs} {ss} e r =
 
 -- REFUTED
 -- names are placed at elements: those that are said by the ranges, the others at 0
-places-below : (m n a : ℕ) (f : Fact) → InRange m n (factFields f) → All (λ d. d < n) (placesOf a f)
-places-below m n a (places b d) r = go (eqb a b)
+places-below : (n a : ℕ) (f : Fact) → InRange 0 n (factFields f) → All (λ d. d < n) (placesOf a f)
+places-below n a (places b d) r = go (eqb a b)
   where
     below : d < n
     below = ltb-true d n (and-true (ltb d n) true (and-true (ltb b 64) (ltb d n && true) r .1) .0)
@@ -123,19 +123,19 @@ places-below m n a (places b d) r = go (eqb a b)
     go : (t : Bool) → All (λ e. e < n) (cond t (d ∷ []) [])
     go true = (below, tt)
     go false = tt
-places-below m n a (has A d) r = tt
-places-below m n a (edge s d e) r = tt
+places-below n a (has A d) r = tt
+places-below n a (edge s d e) r = tt
 
-all-below : (m n a : ℕ) (fs : List Fact) → All (λ f. InRange m n (factFields f)) fs → All (λ d. d < n) (placesIn fs a)
-all-below m n a [] r = tt
-all-below m n a (f ∷ fs) r = All-append (λ d. d < n) (placesOf a f) (placesIn fs a) (places-below m n a f (r .0)) (all-below m n a fs (r .1))
+all-below : (n a : ℕ) (fs : List Fact) → All (λ f. InRange 0 n (factFields f)) fs → All (λ d. d < n) (placesIn fs a)
+all-below n a [] r = tt
+all-below n a (f ∷ fs) r = All-append (λ d. d < n) (placesOf a f) (placesIn fs a) (places-below n a f (r .0)) (all-below n a fs (r .1))
 
 first-below : (n : ℕ) (l : List ℕ) → 1 ≤ n → All (λ d. d < n) l → getD l 0 0 < n
 first-below n [] h k = h
 first-below n (d ∷ l) h k = k .0
 
-pub model-placed : (T : Table) (n : ℕ) (fs : List Fact) → GoodModel T n fs → Placed (interpOf n fs)
-model-placed T n fs m a = first-below n (placesIn fs a) (m .least) (all-below _ n a fs (m .ranges))
+pub model-placed : (n : ℕ) (fs : List Fact) → GoodModel n fs → Placed (interpOf n fs)
+model-placed n fs m a = first-below n (placesIn fs a) (m .least) (all-below n a fs (m .ranges))
 
 pub refuted-fails : (room n : ℕ) (text : List ℕ) {T : Table} {cs : List Sided} {k : ℕ} {fs : List Fact} → verdict room text ≡ refuted n → ReadsModel text T cs k fs → Fails T cs
 refuted-fails room n text {T} {cs} {k} {fs} e r =
@@ -146,8 +146,7 @@ refuted-fails room n text {T} {cs} {k} {fs} e r =
     let f : Fails (p .table) (p .claims)
     = record {
       interp = I;
-      placed = model-placed (p .table) (p .size) (p .facts) g;
-      least = g .least;
+      placed = model-placed (p .size) (p .facts) g;
       most = g .most;
       fails = against-fails (p .table) I (p .claims) .0 (p .against);
     } in

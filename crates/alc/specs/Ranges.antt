@@ -18,16 +18,6 @@ inRange entries elements (element d) = ltb d elements
 inRange entries elements (size n) = leb 1 n && leb n 32
 inRange entries elements (concept i) = ltb i entries
 
--- the concept numbers among the fields
-abbrev pub concepts : List Field → List ℕ
-concepts [] = []
-concepts (role r ∷ fs) = concepts fs
-concepts (atom A ∷ fs) = concepts fs
-concepts (name a ∷ fs) = concepts fs
-concepts (element d ∷ fs) = concepts fs
-concepts (size n ∷ fs) = concepts fs
-concepts (concept i ∷ fs) = i ∷ concepts fs
-
 -- the names among the fields
 abbrev pub namesIn : List Field → List ℕ
 namesIn [] = []

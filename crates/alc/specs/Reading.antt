@@ -44,10 +44,10 @@ pub record GoodSteps (T : Table) (ss : List Step) : Type 0 where
   pub ranges : All (λ s. InRange (length T) 0 (stepFields s)) ss
 
 -- size 1 to 32, elements below the size; no name placed twice, no `has` or `edge` repeated
-pub record GoodModel (T : Table) (n : ℕ) (fs : List Fact) : Type 0 where
+pub record GoodModel (n : ℕ) (fs : List Fact) : Type 0 where
   pub least : 1 ≤ n
   pub most : n ≤ 32
-  pub ranges : All (λ f. InRange (length T) n (factFields f)) fs
+  pub ranges : All (λ f. InRange 0 n (factFields f)) fs
   pub differ : InTurn (λ before f. repeats before f ≡ false) [] fs
 
 -- the text reads as the table T, the claims cs, and the steps ss behind `proof`
@@ -64,7 +64,7 @@ pub record ReadsModel (text : List ℕ) (T : Table) (cs : List Sided) (n : ℕ) 
   pub lines : map saidBy (linesOf text) ≡ map concept T ++ (map claim cs ++ (model ∷ size n ∷ map fact fs))
   pub table : GoodTable T
   pub claims : GoodClaims T cs
-  pub facts : GoodModel T n fs
+  pub facts : GoodModel n fs
 
 -- what stands behind the claims: the steps of a derivation, or the size of a model and what it says
 pub data Evidence : Type 0 where
