@@ -50,12 +50,12 @@ refuted-iff = Verdicts.refuted-iff
 pub against-fails : (T : Table) (I : Interp) (cs : List Sided) → All (Against T I) cs ↔ (holds T I cs ≡ false)
 against-fails = Ending.against-fails
 
--- `refused` with number k at line n, exactly if document 01's table says so: 14, then 1, then the first row of the earliest bad line that it does
--- not pass, then 12, then 13
+-- `refused` with number k at line n, exactly if the rows and states of the definition `Verdict`, read as document 01 reads its table, say so: 14, then 1,
+-- then the first row of the earliest bad line that it does not pass, then 12, then 13
 pub refused-iff : (room : ℕ) (text : List ℕ) (k n : ℕ) → (verdict room text ≡ refused k n) ↔ Refuses room text k n
 refused-iff = Verdicts.refused-iff
 
--- the rows of a line stand in the order of that table
+-- the rows of a line stand in the order of 01's table
 pub rows-in-order : (S : State) (s : Said) → within (map (λ r. r .number) (rows S s)) order ≡ true
 rows-in-order = Passing.in-order
 
@@ -111,7 +111,8 @@ pub row-is-rule : (T : Table) (g : Goal) (s : Step) (ps : List Goal)
     → ((plan T s .asks ≡ true) × (every (has g) (plan T s .needs) ≡ true) × (areNew (plan T s .news) g ≡ true) × (ps ≡ premises (plan T s) g)) ↔ Rule T g s ps
 row-is-rule = Slides.row-is-rule
 
--- a derivation has no order of work in it; document 01's order gives the same
+-- steps derive a goal as a tree (a rule for a goal and derivations of its premises, one after the other, each counting the goals that wait outside it)
+-- exactly if they do step by step, in document 01's order
 pub derives-iff : (T : Table) (ss : List Step) (g : Goal) → Derives T 0 ss (g ∷ []) ↔ Works T ss (g ∷ []) []
 derives-iff = Derive.derives-iff
 

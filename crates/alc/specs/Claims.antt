@@ -10,7 +10,7 @@ use Rattle.alc.specs.Ranges.{Field, role, name, concept, namesIn}
 use Rattle.alc.specs.Meaning.{Interp, Placed, member, everyBelow}
 use Rattle.alc.specs.Table.{Table, treeOf}
 
--- `is a i`: name a is in concept i. `sub i j`: i is included in j. `link r a b`
+-- `is a i`: name a is in concept i. `sub i j`: i is included in j. `link r a b`: (a, b) is in role r
 pub data Claim : Type 0 where
   is sub : ℕ → ℕ → Claim
   link : ℕ → ℕ → ℕ → Claim

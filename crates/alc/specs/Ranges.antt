@@ -9,7 +9,8 @@ use lib.Dec.{ltb, leb}
 pub data Field : Type 0 where
   role atom name element size concept : ℕ → Field
 
--- with `entries` lines in the table so far, and a model of `elements` elements. A table line's own number is the count of the lines above it
+-- the number is in its range, with `entries` lines in the table so far and `elements` elements in the model. A table line's own number is the count of
+-- the lines above it
 abbrev pub inRange : ℕ → ℕ → Field → Bool
 inRange entries elements (role r) = ltb r 16
 inRange entries elements (atom A) = ltb A 64
