@@ -8,11 +8,12 @@ use mathlib.Core.Logic.{_↔_}
 use mathlib.Core.Path.{_≡_, refl, sym, ap, subst, _∙_}
 use lib.ListN.{length, length-append}
 use Rattle.alc.specs.Lists.{All}
-use Rattle.alc.specs.Table.{Table, WellFormed}
+use Rattle.alc.specs.Table.{Table}
 use Rattle.alc.specs.Claims.{Goal, Valid}
 use Rattle.alc.specs.Rules.{Step}
 use Rattle.alc.specs.Slide.{Rule}
 use Rattle.alc.specs.Derivation.{Derives, none, by, Works, done, on}
+use Rattle.alc.proofs.Trees.{WellFormed}
 use Rattle.alc.proofs.Sound.{step-sound}
 use Rattle.alc.proofs.RulesSound.{plan-sound}
 use Rattle.alc.proofs.Slides.{fits-of}

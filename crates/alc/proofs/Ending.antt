@@ -13,7 +13,7 @@ use borrow.Author.Tests.{lt-ltb, le-ltb, not-true, not-false}
 use Rattle.alc.specs.Lists.{All, isEmpty, firstAt}
 use Rattle.alc.specs.Meaning.{Interp}
 use Rattle.alc.specs.Table.{Table}
-use Rattle.alc.specs.Claims.{Sided, left, right, truth, good, holds}
+use Rattle.alc.specs.Claims.{Sided, left, right, truth, holdsBy, holds}
 use Rattle.alc.specs.Model.{interpOf, allPlaced}
 use Rattle.alc.specs.Verdict.{Verdict, proved, refuted, refused, Part, table, claims, steps, start, facts, State, endIn, ending}
 use Rattle.alc.specs.Accepts.{Against}
@@ -58,25 +58,25 @@ module _ {A : Type 0} (p : A → Bool) where
 
 -- THE CLAIMS OF A MODEL
 module _ (T : Table) (I : Interp) where
-  -- left claims true and right claims false: none is good
-  against-bad : (s : Sided) → Against T I s → good T I s ≡ false
+  -- left claims true and right claims false: the sequent holds by none
+  against-bad : (s : Sided) → Against T I s → holdsBy T I s ≡ false
   against-bad (left c) h = ap not h
   against-bad (right c) h = h
 
-  bad-against : (s : Sided) → good T I s ≡ false → Against T I s
+  bad-against : (s : Sided) → holdsBy T I s ≡ false → Against T I s
   bad-against (left c) h = not-false (truth T I c) h
   bad-against (right c) h = h
 
   pub against-fails : (cs : List Sided) → All (Against T I) cs ↔ (holds T I cs ≡ false)
-  against-fails cs = (λ h. All-none (good T I) cs (All-map against-bad cs h), λ e. All-map bad-against cs (any-All (good T I) cs e))
+  against-fails cs = (λ h. All-none (holdsBy T I) cs (All-map against-bad cs h), λ e. All-map bad-against cs (any-All (holdsBy T I) cs e))
 
-  found-wrong : (cs : List Sided) (f : Found (good T I) cs) → FirstWrong T I cs (length (f .before))
+  found-wrong : (cs : List Sided) (f : Found (holdsBy T I) cs) → FirstWrong T I cs (length (f .before))
   found-wrong cs f =
-      record { before = f .before; wrong = f .it; behind = f .behind; claims = f .parts; right = All-map bad-against (f .before) (f .none); good = f .passes; count = refl }
+      record { before = f .before; wrong = f .it; behind = f .behind; claims = f .parts; agrees = All-map bad-against (f .before) (f .none); differs = f .passes; count = refl }
 
-  wrong-first : (cs : List Sided) (m : ℕ) → FirstWrong T I cs m → firstAt (good T I) cs ≡ m
+  wrong-first : (cs : List Sided) (m : ℕ) → FirstWrong T I cs m → firstAt (holdsBy T I) cs ≡ m
   wrong-first cs m f =
-      ap (firstAt (good T I)) (f .claims) ∙ first-there (good T I) (f .before) (f .wrong) (f .behind) (All-map against-bad (f .before) (f .right)) (f .good)
+      ap (firstAt (holdsBy T I)) (f .claims) ∙ first-there (holdsBy T I) (f .before) (f .wrong) (f .behind) (All-map against-bad (f .before) (f .agrees)) (f .differs)
       ∙ sym (f .count)
 
   wrong-below : (cs : List Sided) (m : ℕ) → FirstWrong T I cs m → m < length cs
@@ -100,7 +100,7 @@ module _ (n : ℕ) (E : State) where
       in-steps h false t = (refused 12 (suc n), missing (ap (λ p. unfinishedIn p E) h ∙ ap not t))
 
       in-facts : E .part ≡ facts → (b : Bool) → allPlaced (E .facts) (E .claims) ≡ b
-          → All (λ s. good (E .table) (interpOf (E .size) (E .facts)) s ≡ false) (E .claims) ⊎ Found (good (E .table) (interpOf (E .size) (E .facts))) (E .claims)
+          → All (λ s. holdsBy (E .table) (interpOf (E .size) (E .facts)) s ≡ false) (E .claims) ⊎ Found (holdsBy (E .table) (interpOf (E .size) (E .facts))) (E .claims)
           → (v : Verdict) × Ends n E v
       in-facts h false t r = (refused 12 (suc n), missing (ap (λ p. unfinishedIn p E) h ∙ ap not t))
       in-facts h true t (inl k) = (refuted n, falsified h t (All-map (bad-against (E .table) (interpOf (E .size) (E .facts))) (E .claims) k))
@@ -114,7 +114,7 @@ module _ (n : ℕ) (E : State) where
       go claims h = (refused 12 (suc n), missing (ap (λ p. unfinishedIn p E) h))
       go steps h = in-steps h (isEmpty (E .goals)) refl
       go start h = (refused 12 (suc n), missing (ap (λ p. unfinishedIn p E) h))
-      go facts h = in-facts h (allPlaced (E .facts) (E .claims)) refl (seek (good (E .table) (interpOf (E .size) (E .facts))) (E .claims))
+      go facts h = in-facts h (allPlaced (E .facts) (E .claims)) refl (seek (holdsBy (E .table) (interpOf (E .size) (E .facts))) (E .claims))
 
   missing-in : (p : Part) → unfinishedIn p E ≡ true → endIn p n E ≡ refused 12 (suc n)
   missing-in table u = refl
@@ -125,7 +125,7 @@ module _ (n : ℕ) (E : State) where
 
   -- what the end of a model comes to, by its two tests and the place of the first claim that is wrong
   tested : (a : Bool) (b : Bool) (w : ℕ) → E .part ≡ facts → not (allPlaced (E .facts) (E .claims)) ≡ a
-      → firstAt (good (E .table) (interpOf (E .size) (E .facts))) (E .claims) ≡ w → ltb w (length (E .claims)) ≡ b
+      → firstAt (holdsBy (E .table) (interpOf (E .size) (E .facts))) (E .claims) ≡ w → ltb w (length (E .claims)) ≡ b
       → ending n E ≡ cond a (refused 12 (suc n)) (cond b (refused 13 (suc (length (E .table) + w))) (refuted n))
   unfolding ending
   tested a b w h s f t =
@@ -138,8 +138,8 @@ module _ (n : ℕ) (E : State) where
   unfolding ending
   ends-so (closed h g) = ap (λ p. endIn p n E) h ∙ rw g
   ends-so (falsified h a c) =
-      let good-one = good (E .table) (interpOf (E .size) (E .facts)) in
-      let all = first-none good-one (E .claims) (All-map (against-bad (E .table) (interpOf (E .size) (E .facts))) (E .claims) c) in
+      let by-one = holdsBy (E .table) (interpOf (E .size) (E .facts)) in
+      let all = first-none by-one (E .claims) (All-map (against-bad (E .table) (interpOf (E .size) (E .facts))) (E .claims) c) in
       tested false false (length (E .claims)) h (ap not a) all (le-ltb (length (E .claims)) (length (E .claims)) (omega arith))
   ends-so (missing u) = missing-in (E .part) u
   ends-so (wrong {m} h u f) =

@@ -39,7 +39,7 @@ use Rattle.alc.proofs.Places.{
   a-size,
   a-fact,
 }
-use Rattle.alc.proofs.Runs.{Run, stop, read}
+use Rattle.alc.proofs.Runs.{Run, stop, read, fact-range}
 
 pub data Heard : State → List Said → Type 0 where
   in-table : {T : Table} → GoodTable T → Heard (state table T [] 0 [] 0 []) (map concept T)
@@ -47,7 +47,7 @@ pub data Heard : State → List Said → Type 0 where
   in-steps : {T : Table} {cs : List Sided} {ss : List Step} {gs : List Goal} → GoodTable T → GoodClaims T cs → GoodSteps T ss → Works T ss (cs ∷ []) gs
       → Heard (state steps T cs (length ss) gs 0 []) (map concept T ++ (map claim cs ++ (proof ∷ map step ss)))
   in-start : {T : Table} {cs : List Sided} → GoodTable T → GoodClaims T cs → Heard (state start T cs 0 [] 0 []) (map concept T ++ (map claim cs ++ (model ∷ [])))
-  in-facts : {T : Table} {cs : List Sided} {n : ℕ} {fs : List Fact} → GoodTable T → GoodClaims T cs → GoodModel T n fs
+  in-facts : {T : Table} {cs : List Sided} {n : ℕ} {fs : List Fact} → GoodTable T → GoodClaims T cs → GoodModel n fs
       → Heard (state facts T cs 0 [] n fs) (map concept T ++ (map claim cs ++ (model ∷ size n ∷ map fact fs)))
 
 -- ONE MORE, of lists
@@ -122,7 +122,7 @@ next (in-facts {T} {cs} {n} {fs} t c m) (a-fact {f}) p =
     (in-facts t c (record {
       least = m .least;
       most = m .most;
-      ranges = All-append _ fs (f ∷ []) (m .ranges) (p .0, tt);
+      ranges = All-append _ fs (f ∷ []) (m .ranges) (fact-range (length T) 0 n f (p .0), tt);
       differ = turn-snoc (λ us h. repeats us h ≡ false) [] fs f (m .differ) (not-true (repeats fs f) (p .1 .0));
     }))
 

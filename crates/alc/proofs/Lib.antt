@@ -4,6 +4,7 @@ pub mod Logic
 pub mod ListFacts
 pub mod Trees
 pub mod Numbered
+pub mod Different
 -- Each rule is sound, each is the slide's, and so is what they derive.
 pub mod Sound
 pub mod RulesSound

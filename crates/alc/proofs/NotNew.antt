@@ -1,5 +1,5 @@
 -- A step whose name is not new is refused with 8 at its line: the lines before it are read through, and of its rows the eighth is the first that is
--- not passed. And K6's sentence has no proof, since K7 refutes it.
+-- not passed. And the spring's sentence has no proof, since a world of three refutes it.
 -- Assumes nothing.
 use Prim.Native.Nat.{ℕ, suc, _+_, _≤_, _<_}
 use native.Mathlib.Omega.{arith}
@@ -30,7 +30,7 @@ use Rattle.alc.specs.Lists.{every}
 use Rattle.alc.specs.Rows.{Row, row}
 use Rattle.alc.specs.Meaning.{member}
 use Rattle.alc.specs.Table.{Table, Kind, entryOf, treeTo, treeOf}
-use Rattle.alc.specs.Claims.{is, Sided, left, right, Goal, has, truth}
+use Rattle.alc.specs.Claims.{is, sub, link, Sided, left, right, Goal, has, truth}
 use Rattle.alc.specs.Rules
 use Rattle.alc.specs.Rules.{Step, stepFields, plan}
 use Rattle.alc.specs.Goals.{areNew, stepRows}
@@ -50,7 +50,7 @@ use Rattle.alc.proofs.Verdicts.{refused-iff}
 use Rattle.alc.proofs.Meant.{never-both}
 
 -- the rows before it are passed, and it is not
-pub first-at : (before : List Row) (k : ℕ) (b : Bool) (behind : List Row) → AllPassed before → b ≡ false → First k (before ++ (row k b ∷ behind))
+first-at : (before : List Row) (k : ℕ) (b : Bool) (behind : List Row) → AllPassed before → b ≡ false → First k (before ++ (row k b ∷ behind))
 first-at [] k b behind h e = subst (λ z. First k (row k z ∷ behind)) (sym e) here
 first-at (r ∷ before) k b behind h e = subst (λ z. First k (row (r .number) z ∷ (before ++ (row k b ∷ behind)))) (sym (h .0)) (later (first-at before k b behind (h .1) e))
 
@@ -79,7 +79,7 @@ cut-map f (a ∷ l) (x ∷ xs) y ys e =
     }
 
 -- a step is refused by the first of its rows that it does not pass
-pub step-refused : (room : ℕ) (text : List ℕ) (T : Table) (cs : List Sided) (ss : List Step) (gs : List Goal) (s : Step) (k : ℕ) → 1088 ≤ room
+step-refused : (room : ℕ) (text : List ℕ) (T : Table) (cs : List Sided) (ss : List Step) (gs : List Goal) (s : Step) (k : ℕ) → 1088 ≤ room
     → ReadsUpTo text T cs ss gs s → First k (stepRows T (length ss) gs s) → verdict room text ≡ refused k (lineOf T cs ss)
 unfolding rows
 step-refused room text T cs ss gs s k h r f =
@@ -105,12 +105,18 @@ step-refused room text T cs ss gs s k h r f =
     refused-iff room text k (lineOf T cs ss) .1 (at-line h (r .short) bad)
 
 -- whichever the rule: where all before newness is in order and the names are not new, 8 is the first row that is not passed
-pub not-new : (T : Table) (n : ℕ) (g : Goal) (gs : List Goal) (s : Step) → n < 1024 → InRange (length T) 0 (stepFields s) → plan T s .asks ≡ true
+not-new : (T : Table) (n : ℕ) (g : Goal) (gs : List Goal) (s : Step) → n < 1024 → InRange (length T) 0 (stepFields s) → plan T s .asks ≡ true
     → every (has g) (plan T s .needs) ≡ true → areNew (plan T s .news) g ≡ false → First 8 (stepRows T n (g ∷ gs) s)
 unfolding stepRows
 not-new T n g gs s l r a h e =
     first-at (row 5 (ltb n 1024) ∷ row 9 true ∷ row 3 _ ∷ row 6 (plan T s .asks) ∷ row 7 (every (has g) (plan T s .needs)) ∷ []) 8 (areNew (plan T s .news) g) _
     (lt-ltb n 1024 l, (refl, (r, (a, (h, tt))))) e
+
+-- so the step is refused with 8 at its line
+pub not-new-refused : (room : ℕ) (text : List ℕ) (T : Table) (cs : List Sided) (ss : List Step) (g : Goal) (gs : List Goal) (s : Step) → 1088 ≤ room
+    → ReadsUpTo text T cs ss (g ∷ gs) s → length ss < 1024 → InRange (length T) 0 (stepFields s) → plan T s .asks ≡ true → every (has g) (plan T s .needs) ≡ true
+    → areNew (plan T s .news) g ≡ false → verdict room text ≡ refused 8 (lineOf T cs ss)
+not-new-refused room text T cs ss g gs s h r l q a n e = step-refused room text T cs ss (g ∷ gs) s 8 h r (not-new T (length ss) g gs s l q a n e)
 
 -- a `some-l` whose name stands in the goal already
 pub some-l-refused : (room : ℕ) (text : List ℕ) (T : Table) (cs : List Sided) (ss : List Step) (g : Goal) (gs : List Goal) (a i b : ℕ) → 1088 ≤ room
@@ -118,37 +124,45 @@ pub some-l-refused : (room : ℕ) (text : List ℕ) (T : Table) (cs : List Sided
     → g ∋ left (is a i) → (b ∉ g → ⊥) → verdict room text ≡ refused 8 (lineOf T cs ss)
 unfolding plan
 some-l-refused room text T cs ss g gs a i b h r l q k n o =
-    step-refused room text T cs ss (g ∷ gs) (Rules.some-l a i b) 8 h r
-    (not-new T (length ss) g gs (Rules.some-l a i b) l q k (rw n) (is-false (areNew (b ∷ []) g) (λ e. o (unnamed b g e))))
+    not-new-refused room text T cs ss g gs (Rules.some-l a i b) h r l q k (rw n) (is-false (areNew (b ∷ []) g) (λ e. o (unnamed b g e)))
 
--- K6's SENTENCE: `atom 0`, `some 0 0`, `left is 0 1`, `right is 0 0`
+-- THE SPRING'S SENTENCE: the table and claims of examples/gift-spring
 abbrev giftTable : Table
-giftTable = entryOf Kind.atom 0 0 ∷ entryOf Kind.some 0 0 ∷ []
+giftTable = entryOf Kind.atom 0 0 ∷ entryOf Kind.atom 1 0 ∷ entryOf Kind.some 0 0 ∷ entryOf Kind.some 0 1 ∷ []
 
 abbrev giftClaims : List Sided
-giftClaims = left (is 0 1) ∷ right (is 0 0) ∷ []
+giftClaims = left (sub 0 1) ∷ left (link 0 0 1) ∷ left (is 0 2) ∷ right (is 1 1) ∷ []
 
--- the text of K7
-K7 : List ℕ
-K7 = text ("atom 0" ∷ "some 0 0" ∷ "left is 0 1" ∷ "right is 0 0" ∷ "model" ∷ "size 2" ∷ "name 0 0" ∷ "has 0 1" ∷ "edge 0 0 1" ∷ [])
+-- the text of examples/gift-world
+world : List ℕ
+world =
+    text
+    ("atom 0" ∷ "atom 1" ∷ "some 0 0" ∷ "some 0 1" ∷ "left sub 0 1" ∷ "left link 0 0 1" ∷ "left is 0 2" ∷ "right is 1 1" ∷ "model" ∷ "size 3" ∷ "name 0 0" ∷ "name 1 1"
+    ∷ "has 0 2" ∷ "has 1 2" ∷ "edge 0 0 1" ∷ "edge 0 0 2" ∷ [])
 
-abbrev K7-facts : List Fact
-K7-facts = Model.places 0 0 ∷ Model.has 0 1 ∷ Model.edge 0 0 1 ∷ []
+abbrev world-facts : List Fact
+world-facts = Model.places 0 0 ∷ Model.places 1 1 ∷ Model.has 0 2 ∷ Model.has 1 2 ∷ Model.edge 0 0 1 ∷ Model.edge 0 0 2 ∷ []
 
-K7-reads : ReadsModel K7 giftTable giftClaims 2 K7-facts
-unfolding K7 decide ℕ-discrete cut goodByte digit valueFrom leads isNumber words rowOf rowIndex sideOf behindOf itemOf linesOf saidBy
-K7-reads =
+world-reads : ReadsModel world giftTable giftClaims 3 world-facts
+unfolding world decide ℕ-discrete cut goodByte digit valueFrom leads isNumber words rowOf rowIndex sideOf behindOf itemOf linesOf saidBy
+world-reads =
     record {
       short = leb-true _ 65535 refl;
       lines = refl;
-      table = record { few = leb-true _ 256 refl; ranges = (refl, (refl, tt)); differ = (refl, (refl, tt)) };
-      claims = record { few = leb-true _ 64 refl; ranges = (refl, (refl, tt)) };
-      facts = record { least = leb-true 1 2 refl; most = leb-true 2 32 refl; ranges = (refl, (refl, (refl, tt))); differ = (refl, (refl, (refl, tt))) };
+      table = record { few = leb-true _ 256 refl; ranges = (refl, (refl, (refl, (refl, tt)))); differ = (refl, (refl, (refl, (refl, tt)))) };
+      claims = record { few = leb-true _ 64 refl; ranges = (refl, (refl, (refl, (refl, tt)))) };
+      facts =
+          record {
+            least = leb-true 1 3 refl;
+            most = leb-true 3 32 refl;
+            ranges = (refl, (refl, (refl, (refl, (refl, (refl, tt))))));
+            differ = (refl, (refl, (refl, (refl, (refl, (refl, tt))))));
+          };
     }
 
-K7-refuted : verdict 1088 K7 ≡ refuted 9
-unfolding K7 decide ℕ-discrete cut goodByte digit valueFrom leads isNumber words rowOf rowIndex sideOf behindOf itemOf fit linesOf member treeTo treeOf truth saidBy rows after ending judge verdict
-K7-refuted = refl
+world-refuted : verdict 1088 world ≡ refuted 16
+unfolding world decide ℕ-discrete cut goodByte digit valueFrom leads isNumber words rowOf rowIndex sideOf behindOf itemOf fit linesOf member treeTo treeOf truth saidBy rows after ending judge verdict
+world-refuted = refl
 
 pub gift-unproved : (room n : ℕ) (text : List ℕ) (ss : List Step) → ReadsProof text giftTable giftClaims ss → verdict room text ≡ proved n → ⊥
-gift-unproved room n text ss r e = never-both room 1088 n 9 text K7 r K7-reads e K7-refuted
+gift-unproved room n text ss r e = never-both room 1088 n 16 text world r world-reads e world-refuted

@@ -21,7 +21,7 @@ use Rattle.alc.proofs.ListFacts.{any-All, All-none}
 
 module _ {A : Type 0} (d : A) where
   -- at each number, and the other way round
-  All-at : (P : A → Type 0) (l : List A) → All P l → (i : ℕ) → i < length l → P (getD l i d)
+  pub All-at : (P : A → Type 0) (l : List A) → All P l → (i : ℕ) → i < length l → P (getD l i d)
   All-at P [] h i k = absurd (omega arith)
   All-at P (x ∷ l) h zero k = h .0
   All-at P (x ∷ l) h (suc i) k = All-at P l (h .1) i (omega arith)

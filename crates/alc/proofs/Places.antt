@@ -19,7 +19,7 @@ use Rattle.alc.specs.Table.{Entry}
 use Rattle.alc.specs.Claims.{Sided}
 use Rattle.alc.specs.Rules.{Step}
 use Rattle.alc.specs.Model.{Fact}
-use Rattle.alc.specs.Dossier.{Said, concept, claim, proof, model, step, size, fact, unread, sayings, saying, saidBy, saidAt}
+use Rattle.alc.specs.Dossier.{Said, concept, claim, proof, model, step, size, fact, unread, lexicon, sayings, saying, saidBy, saidAt}
 use Rattle.alc.specs.Verdict.{Part, table, claims, steps, start, facts, place}
 use Rattle.alc.proofs.Logic.{or-true}
 
@@ -36,6 +36,11 @@ parts unread = []
 
 abbrev pub fits : Part → Said → Bool
 fits p s = any (λ q. eqb (place p) (place q)) (parts s)
+
+-- the table of words and what they say: the same words in the same order
+pub words-as-said : (s x y z : ℕ) → map (λ r. r .word) (lexicon s x y z) ≡ map (λ r. r .word) words
+unfolding words
+words-as-said s x y z = refl
 
 -- the same by the table of words, column by column
 abbrev at : ℕ → Text.Row → Bool

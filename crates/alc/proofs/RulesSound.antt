@@ -9,13 +9,13 @@ use mathlib.Core.Path.{_≡_, refl, sym, ap, ap₂, _∙_}
 use borrow.Author.Tests.{not-true, not-false, eq-eqb}
 use Rattle.alc.specs.Lists.{All, elem}
 use Rattle.alc.specs.Meaning.{Interp, Placed, member}
-use Rattle.alc.specs.Table.{Table, Kind, isA, shape, treeOf, WellFormed}
+use Rattle.alc.specs.Table.{Table, Kind, isA, shape, treeOf}
 use Rattle.alc.specs.Claims.{is, sub, link, Sided, left, right, truth}
 use Rattle.alc.specs.Rules
 use Rattle.alc.specs.Rules.{Step, plan, first, second, roleOf, inner}
 use Rattle.alc.specs.Goals.{avoids}
 use Rattle.alc.proofs.Logic.{and-true, and-false, or-true, or-false, if-true, if-false, clash, some-true, some-false, every-true, every-false}
-use Rattle.alc.proofs.Trees.{law-at}
+use Rattle.alc.proofs.Trees.{WellFormed, law-at}
 use Rattle.alc.proofs.Sound.{Bad, moved, Refutes, Sound}
 
 -- the placing, with name b at element e

@@ -18,7 +18,7 @@ use Rattle.alc.specs.Claims as Claims
 use Rattle.alc.specs.Claims.{Sided, Goal, claimFields}
 use Rattle.alc.specs.Rules.{Step, stepFields, plan}
 use Rattle.alc.specs.Goals.{premises, stepRows, goalsAfter}
-use Rattle.alc.specs.Model.{Fact, factFields, repeats}
+use Rattle.alc.specs.Model.{Fact, places, has, edge, factFields, repeats}
 use Rattle.alc.specs.Dossier.{Said, concept, claim, proof, model, step, size, fact, unread, saidBy}
 use Rattle.alc.specs.Verdict.{Part, table, claims, steps, facts, State, state, begin, rows, after}
 use Rattle.alc.specs.Reading.{InTurn, InRange, GoodTable, GoodClaims, GoodSteps, GoodModel}
@@ -74,6 +74,12 @@ pub step-leaves : (T : Table) (s : Step) (g : Goal) (gs ps : List Goal) → Rule
 unfolding goalsAfter
 step-leaves T s g gs ps r = ap (λ z. z ++ gs) (fits-of T g r .1)
 
+-- a fact has no concept number, so the table's length does not matter to its ranges
+pub fact-range : (m k n : ℕ) (f : Fact) → InRange m n (factFields f) → InRange k n (factFields f)
+fact-range m k n (places a d) r = r
+fact-range m k n (has A d) r = r
+fact-range m k n (edge s d e) r = r
+
 module _ (T : Table) where
   table-run : (above rest : Table) → length above + length rest ≤ 256 → InTurn (λ us e. InRange (length us) 0 (entryFields e)) above rest
       → InTurn (λ us e. stands us e ≡ false) above rest → Run (state table above [] 0 [] 0 []) (map concept rest) (state table (above ++ rest) [] 0 [] 0 [])
@@ -107,11 +113,11 @@ module _ (T : Table) where
         let v = steps-run w (suc n) (omega arith) (r .1) in
         read refl (step-passed T s g gs ps n ru k f (omega arith) (r .0)) (rw (q, step-leaves T s g gs ps ru) at v)
 
-    facts-run : (n : ℕ) (old new : List Fact) → All (λ f. InRange (length T) n (factFields f)) new → InTurn (λ us f. repeats us f ≡ false) old new
+    facts-run : (n : ℕ) (old new : List Fact) → All (λ f. InRange 0 n (factFields f)) new → InTurn (λ us f. repeats us f ≡ false) old new
         → Run (state facts T cs 0 [] n old) (map fact new) (state facts T cs 0 [] n (old ++ new))
     unfolding rows after
     facts-run n old [] r d = rw append-nil stop
-    facts-run n old (f ∷ new) r d = read {s = fact f} refl (r .0, (ap not (d .0), tt)) (rw append-snoc at (facts-run n (old ++ (f ∷ [])) new (r .1) (d .1)))
+    facts-run n old (f ∷ new) r d = read {s = fact f} refl (fact-range 0 (length T) n f (r .0), (ap not (d .0), tt)) (rw append-snoc at (facts-run n (old ++ (f ∷ [])) new (r .1) (d .1)))
 
     -- the whole of a dossier
     pub proof-run : {ss : List Step} {gs : List Goal} → GoodTable T → GoodClaims T cs → GoodSteps T ss → Works T ss (cs ∷ []) gs
@@ -122,7 +128,7 @@ module _ (T : Table) where
         run-append (table-run [] T (omega (arith, t .few)) (t .ranges) (t .differ))
         (run-append (h .run) (read (h .turns) tt (rw zero-add at (steps-run w 0 (omega (arith, s .few)) (s .ranges)))))
 
-    pub model-run : (n : ℕ) (fs : List Fact) → GoodTable T → GoodClaims T cs → GoodModel T n fs
+    pub model-run : (n : ℕ) (fs : List Fact) → GoodTable T → GoodClaims T cs → GoodModel n fs
         → Run begin (map concept T ++ (map claim cs ++ (model ∷ size n ∷ map fact fs))) (state facts T cs 0 [] n fs)
     unfolding rows after
     model-run n fs t c m =

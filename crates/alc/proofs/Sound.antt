@@ -11,7 +11,7 @@ use borrow.Author.Tests.{not-true}
 use Rattle.alc.specs.Lists.{All, every, elem, distinct}
 use Rattle.alc.specs.Meaning.{Interp, Placed, member}
 use Rattle.alc.specs.Table.{Table, treeOf}
-use Rattle.alc.specs.Claims.{Claim, is, sub, link, Sided, left, right, Goal, names, has, truth, good, holds, Valid}
+use Rattle.alc.specs.Claims.{Claim, is, sub, link, Sided, left, right, Goal, names, has, truth, holdsBy, holds, Valid}
 use Rattle.alc.specs.Rules.{Step, Plan, plan}
 use Rattle.alc.specs.Goals.{avoids, rest, premises, areNew}
 use Rattle.alc.proofs.Logic.{and-true, clash}
@@ -25,7 +25,7 @@ pub record Fits (T : Table) (g : Goal) (s : Step) : Type 0 where
 
 -- the claim counts against the goal
 abbrev pub Bad : Table → Interp → Sided → Type 0
-Bad T I s = good T I s ≡ false
+Bad T I s = holdsBy T I s ≡ false
 
 -- the same world, the names placed anew
 abbrev pub moved : Interp → (ℕ → ℕ) → Interp
@@ -55,10 +55,10 @@ truth-moved T I news π f (is a i) n = ap (member (I .world) (treeOf T i)) (f a 
 truth-moved T I news π f (sub i j) n = refl
 truth-moved T I news π f (link r a b) n = ap₂ (I .world .roles r) (f a (not-true (elem a news) (n .0))) (f b (not-true (elem b news) (n .1 .0)))
 
-good-moved : (T : Table) (I : Interp) (news : List ℕ) (π : ℕ → ℕ) → ((a : ℕ) → elem a news ≡ false → π a ≡ I .place a)
-    → (s : Sided) → avoids news s ≡ true → good T (moved I π) s ≡ good T I s
-good-moved T I news π f (left c) n = ap not (truth-moved T I news π f c (every-All (λ a. not (elem a news)) (names c) n))
-good-moved T I news π f (right c) n = truth-moved T I news π f c (every-All (λ a. not (elem a news)) (names c) n)
+holdsBy-moved : (T : Table) (I : Interp) (news : List ℕ) (π : ℕ → ℕ) → ((a : ℕ) → elem a news ≡ false → π a ≡ I .place a)
+    → (s : Sided) → avoids news s ≡ true → holdsBy T (moved I π) s ≡ holdsBy T I s
+holdsBy-moved T I news π f (left c) n = ap not (truth-moved T I news π f c (every-All (λ a. not (elem a news)) (names c) n))
+holdsBy-moved T I news π f (right c) n = truth-moved T I news π f c (every-All (λ a. not (elem a news)) (names c) n)
 
 -- a premise cannot hold everywhere where its claims and the goal's are refuted
 no-open : (T : Table) (I : Interp) (news : List ℕ) (g : Goal) → All (λ s. avoids news s ≡ true) g → All (Bad T I) g
@@ -66,8 +66,8 @@ no-open : (T : Table) (I : Interp) (news : List ℕ) (g : Goal) → All (λ s. a
 no-open T I news g n b kept k [] o v = o
 no-open T I news g n b kept k (l ∷ ls) (inl r) v =
     let J = moved I (r .place) in
-    let old : All (Bad T J) g = All-zip (λ s a e. good-moved T I news (r .place) (r .agrees) s a ∙ e) g n b in
-    clash (holds T J (kept ++ l)) (v .0 J (r .placed)) (All-none (good T J) (kept ++ l) (All-append (Bad T J) kept l (k (Bad T J) old) (r .bad)))
+    let old : All (Bad T J) g = All-zip (λ s a e. holdsBy-moved T I news (r .place) (r .agrees) s a ∙ e) g n b in
+    clash (holds T J (kept ++ l)) (v .0 J (r .placed)) (All-none (holdsBy T J) (kept ++ l) (All-append (Bad T J) kept l (k (Bad T J) old) (r .bad)))
 no-open T I news g n b kept k (l ∷ ls) (inr o) v = no-open T I news g n b kept k ls o (v .1)
 
 pub step-sound : (T : Table) (s : Step) → Sound T (plan T s) → (g : Goal) → Fits T g s → All (Valid T) (premises (plan T s) g) → Valid T g
@@ -88,6 +88,6 @@ step-sound T s sound g f v I placed = go (holds T I g) refl
     go : (b : Bool) → holds T I g ≡ b → b ≡ true
     go true h = refl
     go false h =
-        let bad : All (Bad T I) g = any-All (good T I) g h in
+        let bad : All (Bad T I) g = any-All (holdsBy T I) g h in
         let opened = sound I placed (f .asks) (differ .0) (of-needs (λ t. avoids (p .news) t ≡ true) new) (of-needs (Bad T I) bad) in
         absurd (no-open T I (p .news) g new bad (rest (p .drops) (p .needs) g) (λ P k. All-rest P (p .drops) (p .needs) g k) (p .premises) opened v)

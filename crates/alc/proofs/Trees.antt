@@ -12,9 +12,27 @@ use borrow.Author.Tests.{ltb-true}
 use Rattle.alc.specs.Lists.{All}
 use Rattle.alc.proofs.ListFacts.{All-map, every-All}
 use Rattle.alc.specs.Meaning.{Tree}
-use Rattle.alc.specs.Table.{Table, Kind, Kind-discrete, entry, isA, fieldsBy, entryFields, shape, grow, parts, treeTo, treeOf, WellFormed}
-use Rattle.alc.specs.Ranges.{Field, role, atom, name, element, size, concept, inRange, concepts}
+use Rattle.alc.specs.Table.{Table, Entry, Kind, Kind-discrete, entry, isA, fieldsBy, entryFields, shape, grow, treeTo, treeOf}
+use Rattle.alc.specs.Ranges.{Field, role, atom, name, element, size, concept, inRange}
 use Rattle.alc.specs.Reading.{InTurn, InRange, GoodTable}
+
+-- the concept numbers among the fields
+abbrev pub concepts : List Field → List ℕ
+concepts [] = []
+concepts (role r ∷ fs) = concepts fs
+concepts (atom A ∷ fs) = concepts fs
+concepts (name a ∷ fs) = concepts fs
+concepts (element d ∷ fs) = concepts fs
+concepts (size n ∷ fs) = concepts fs
+concepts (concept i ∷ fs) = i ∷ concepts fs
+
+-- the parts of a line: the concept numbers among its fields
+abbrev pub parts : Entry → List ℕ
+parts e = concepts (entryFields e)
+
+-- "A concept field is smaller than its own line's number"
+abbrev pub WellFormed : Table → Type 0
+WellFormed T = (i : ℕ) → All (λ p. p < i) (parts (entry T i))
 
 -- equal trees of the parts, equal trees
 shape-same : (k : Kind) (x y : ℕ) (t u : ℕ → Tree) → All (λ p. t p ≡ u p) (concepts (fieldsBy k x y)) → shape k x y t ≡ shape k x y u

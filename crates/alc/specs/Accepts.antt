@@ -36,10 +36,9 @@ pub record Falsifies (text : List ℕ) : Type 0 where
   pub placed : allPlaced facts claims ≡ true
   pub against : All (Against table (interpOf size facts)) claims
 
--- the sequent fails in an interpretation of 1 to 32 elements
+-- the sequent fails in an interpretation of 1 to 32 elements: a name's place is an element, so there is one
 pub record Fails (T : Table) (cs : List Sided) : Type 0 where
   pub interp : Interp
   pub placed : Placed interp
-  pub least : 1 ≤ interp .world .size
   pub most : interp .world .size ≤ 32
   pub fails : holds T interp cs ≡ false

@@ -10,7 +10,7 @@ use Rattle.alc.specs.Ranges.{Field, role, name, concept, namesIn}
 use Rattle.alc.specs.Meaning.{Interp, Placed, member, everyBelow}
 use Rattle.alc.specs.Table.{Table, treeOf}
 
--- `is a i`: name a is in concept i. `sub i j`: i is included in j. `link r a b`
+-- `is a i`: name a is in concept i. `sub i j`: i is included in j. `link r a b`: (a, b) is in role r
 pub data Claim : Type 0 where
   is sub : ℕ → ℕ → Claim
   link : ℕ → ℕ → ℕ → Claim
@@ -59,14 +59,14 @@ truth T I (is a i) = member (I .world) (treeOf T i) (I .place a)
 truth T I (sub i j) = everyBelow (I .world .size) (λ d. not (member (I .world) (treeOf T i) d) || member (I .world) (treeOf T j) d)
 truth T I (link r a b) = I .world .roles r (I .place a) (I .place b)
 
--- a left claim that is false, a right claim that is true: the sequent holds by it
-abbrev pub good : Table → Interp → Sided → Bool
-good T I (left c) = not (truth T I c)
-good T I (right c) = truth T I c
+-- the sequent holds by this claim: a left claim that is false, a right claim that is true
+abbrev pub holdsBy : Table → Interp → Sided → Bool
+holdsBy T I (left c) = not (truth T I c)
+holdsBy T I (right c) = truth T I c
 
 -- some left claim is false or some right claim is true
 abbrev pub holds : Table → Interp → Goal → Bool
-holds T I g = any (good T I) g
+holds T I g = any (holdsBy T I) g
 
 -- the sequent holds in every interpretation, of any size from 1 on, however the names are placed
 abbrev pub Valid : Table → Goal → Type 0

@@ -1,5 +1,5 @@
--- What a derivation is: with no order of work in it, a rule for each goal and derivations of the premises that the rule leaves; and step by step,
--- in document 01's order. `Theorems` has that the two are one.
+-- What a derivation is. As a tree: a rule for a goal and derivations of its premises, one after the other, each counting the goals that wait outside
+-- it. And step by step, in document 01's order. `Theorems` has that the two are one.
 -- Assumes nothing.
 use Prim.Native.Nat.{ℕ, _+_, _≤_}
 use mathlib.Core.List.{List, [], _∷_, _++_}

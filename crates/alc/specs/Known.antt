@@ -30,8 +30,8 @@ abbrev K1 : List String
 K1 = "atom 0" ∷ "atom 1" ∷ "left sub 0 1" ∷ "left is 0 0" ∷ "right is 0 1" ∷ "proof" ∷ "sub-l 0 0 1" ∷ "id 0 1" ∷ []
 
 -- the first four lines of K6
-abbrev gift : List String
-gift = "atom 0" ∷ "some 0 0" ∷ "left is 0 1" ∷ "right is 0 0" ∷ []
+abbrev K6 : List String
+K6 = "atom 0" ∷ "some 0 0" ∷ "left is 0 1" ∷ "right is 0 0" ∷ []
 
 -- an `and` on the right, with both parts on the left
 abbrev both : List String
@@ -50,10 +50,10 @@ known =
     ∷ gives [] "refused" 12 1
     ∷ gives (take 6 K1 ++ "id 0 1" ∷ "id 0 1" ∷ []) "refused" 7 7
     ∷ gives (K1 ++ "id 0 1" ∷ []) "refused" 9 9
-    ∷ gives (gift ++ "proof" ∷ "some-l 0 1 0" ∷ []) "refused" 8 6
-    ∷ gives (gift ++ "model" ∷ "size 2" ∷ "name 0 0" ∷ "has 0 1" ∷ "edge 0 0 1" ∷ []) "refuted" 0 9
-    ∷ gives (gift ++ "model" ∷ "size 2" ∷ "name 0 0" ∷ "has 0 0" ∷ "edge 0 0 1" ∷ []) "refused" 13 3
-    ∷ gives (gift ++ "model" ∷ "size 2" ∷ "has 0 1" ∷ "edge 0 0 1" ∷ []) "refused" 12 9
+    ∷ gives (K6 ++ "proof" ∷ "some-l 0 1 0" ∷ []) "refused" 8 6
+    ∷ gives (K6 ++ "model" ∷ "size 2" ∷ "name 0 0" ∷ "has 0 1" ∷ "edge 0 0 1" ∷ []) "refuted" 0 9
+    ∷ gives (K6 ++ "model" ∷ "size 2" ∷ "name 0 0" ∷ "has 0 0" ∷ "edge 0 0 1" ∷ []) "refused" 13 3
+    ∷ gives (K6 ++ "model" ∷ "size 2" ∷ "has 0 1" ∷ "edge 0 0 1" ∷ []) "refused" 12 9
     ∷ gives ("atom 0" ∷ "atom 0" ∷ []) "refused" 4 2
     ∷ gives ("atom 0" ∷ "some 0 0" ∷ "left link 0 0 1" ∷ "left is 1 0" ∷ "right is 0 1" ∷ "proof" ∷ "some-r 0 1 1" ∷ "id 1 0" ∷ []) "proved" 0 8
     ∷ gives ("atom 0" ∷ "not 0" ∷ "left is 0 1" ∷ "right is 0 1" ∷ "proof" ∷ "id 0 1" ∷ []) "refused" 6 6

@@ -1,4 +1,4 @@
--- The model of a dossier: what its lines say, the interpretation that they give, and the claims that it gets wrong.
+-- The model of a dossier: what its lines say, the interpretation that they give, and whether every name of the claims is placed.
 -- Assumes nothing.
 use Prim.Native.Nat.{ℕ}
 use native.Mathlib.Decide.{ℕ-discrete}
@@ -48,7 +48,7 @@ repeats fs (places a d) = isPlaced fs a
 repeats fs (has A d) = isSaid fs (has A d)
 repeats fs (edge r d e) = isSaid fs (edge r d e)
 
--- the interpretation of n elements: what isn't said is false, and a name that isn't placed may be anywhere
+-- the interpretation of n elements: what isn't said is false, and a name that isn't placed is at 0, which no claim of a passing dossier sees
 abbrev pub interpOf : ℕ → List Fact → Interp
 interpOf n fs =
     record {

@@ -9,7 +9,8 @@ use lib.Dec.{ltb, leb}
 pub data Field : Type 0 where
   role atom name element size concept : ℕ → Field
 
--- with `entries` lines in the table so far, and a model of `elements` elements. A table line's own number is the count of the lines above it
+-- the number is in its range, with `entries` lines in the table so far and `elements` elements in the model. A table line's own number is the count of
+-- the lines above it
 abbrev pub inRange : ℕ → ℕ → Field → Bool
 inRange entries elements (role r) = ltb r 16
 inRange entries elements (atom A) = ltb A 64
@@ -17,16 +18,6 @@ inRange entries elements (name a) = ltb a 64
 inRange entries elements (element d) = ltb d elements
 inRange entries elements (size n) = leb 1 n && leb n 32
 inRange entries elements (concept i) = ltb i entries
-
--- the concept numbers among the fields
-abbrev pub concepts : List Field → List ℕ
-concepts [] = []
-concepts (role r ∷ fs) = concepts fs
-concepts (atom A ∷ fs) = concepts fs
-concepts (name a ∷ fs) = concepts fs
-concepts (element d ∷ fs) = concepts fs
-concepts (size n ∷ fs) = concepts fs
-concepts (concept i ∷ fs) = i ∷ concepts fs
 
 -- the names among the fields
 abbrev pub namesIn : List Field → List ℕ

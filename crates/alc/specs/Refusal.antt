@@ -13,7 +13,7 @@ use Rattle.alc.specs.Lists.{All, isEmpty}
 use Rattle.alc.specs.Rows.{Row, row}
 use Rattle.alc.specs.Table.{Table}
 use Rattle.alc.specs.Meaning.{Interp}
-use Rattle.alc.specs.Claims.{Sided, good}
+use Rattle.alc.specs.Claims.{Sided, holdsBy}
 use Rattle.alc.specs.Model.{interpOf, allPlaced}
 use Rattle.alc.specs.Dossier.{Said, saidAt}
 use Rattle.alc.specs.Verdict.{Part, table, claims, steps, start, facts, State, place, begin, rows, after}
@@ -77,8 +77,8 @@ pub record FirstWrong (T : Table) (I : Interp) (cs : List Sided) (m : ℕ) : Typ
   pub wrong : Sided
   pub behind : List Sided
   pub claims : cs ≡ before ++ (wrong ∷ behind)
-  pub right : All (Against T I) before
-  pub good : good T I wrong ≡ true
+  pub agrees : All (Against T I) before
+  pub differs : holdsBy T I wrong ≡ true
   pub count : m ≡ length before
 
 -- the refusals of a text with a lent room of so many records: number and line

@@ -1,4 +1,5 @@
--- The rules as the slides print them, read from the conclusion up: a goal g, a step, and the premises that are left to prove.
+-- The rules of the slides, read from the conclusion up: a goal g, a step, and the premises that are left to prove. The slides have multisets, here are
+-- lists: a claim is taken from its first place, and new ones come last.
 -- Assumes nothing.
 use Prim.Native.Nat.{ℕ}
 use mathlib.Core.Bool.{true}

@@ -1,12 +1,12 @@
 -- The concept table. A line is a kind and up to two numbers; it stands for a tree, whose parts are lines above it.
 -- Assumes nothing.
-use Prim.Native.Nat.{ℕ, zero, suc, _<_}
+use Prim.Native.Nat.{ℕ, zero, suc}
 use mathlib.Core.Bool.{Bool, decide, _&&_}
 use mathlib.Core.List.{List, [], _∷_}
 use lib.Dec.{eqb}
 use lib.ListN.{getD}
-use Rattle.alc.specs.Lists.{All, any}
-use Rattle.alc.specs.Ranges.{Field, role, concept, concepts}
+use Rattle.alc.specs.Lists.{any}
+use Rattle.alc.specs.Ranges.{Field, role, concept}
 use Rattle.alc.specs.Meaning.{Tree}
 
 -- a line's word
@@ -59,10 +59,6 @@ fieldsBy Kind.all x y = role x ∷ concept y ∷ []
 abbrev pub entryFields : Entry → List Field
 entryFields e = fieldsBy (e .kind) (e .x) (e .y)
 
--- the parts of a line: the concept numbers among its fields
-abbrev pub parts : Entry → List ℕ
-parts e = concepts (entryFields e)
-
 -- the tree of a line with these fields, from the trees t of its parts
 abbrev pub shape : Kind → ℕ → ℕ → (ℕ → Tree) → Tree
 shape Kind.top x y t = Tree.top
@@ -86,7 +82,3 @@ treeTo (suc depth) T i = grow (entry T i) (treeTo depth T)
 -- the tree of line i: i + 1 lines are deep enough, as each part's number is smaller
 unfoldable pub treeOf : Table → ℕ → Tree
 treeOf T i = treeTo (suc i) T i
-
--- "A concept field is smaller than its own line's number"
-abbrev pub WellFormed : Table → Type 0
-WellFormed T = (i : ℕ) → All (λ p. p < i) (parts (entry T i))

@@ -13,7 +13,7 @@ use Rattle.alc.specs.Rows.{Row, row, refusal}
 use Rattle.alc.specs.Ranges as Ranges
 use Rattle.alc.specs.Ranges.{Field, inRange}
 use Rattle.alc.specs.Table.{Table, stands, entryFields}
-use Rattle.alc.specs.Claims.{Sided, Goal, claimFields, good}
+use Rattle.alc.specs.Claims.{Sided, Goal, claimFields, holdsBy}
 use Rattle.alc.specs.Claims as Claims
 use Rattle.alc.specs.Goals.{stepRows, goalsAfter}
 use Rattle.alc.specs.Model.{Fact, factFields, repeats, interpOf, allPlaced}
@@ -101,7 +101,7 @@ after S unread = S
 -- at the end of n lines, a model: 12 where a claim's name is unplaced, 13 where a claim is wrong, with the line of the first such claim
 abbrev pub modelled : ℕ → State → Verdict
 modelled n S =
-    let wrong = firstAt (good (S .table) (interpOf (S .size) (S .facts))) (S .claims) in
+    let wrong = firstAt (holdsBy (S .table) (interpOf (S .size) (S .facts))) (S .claims) in
     cond (not (allPlaced (S .facts) (S .claims))) (refused 12 (suc n))
     (cond (ltb wrong (length (S .claims))) (refused 13 (suc (length (S .table) + wrong)))
     (refuted n))

@@ -11,7 +11,7 @@ use lib.Dec.{ltb}
 use lib.ListN.{getD}
 use borrow.Author.Tests.{lt-ltb, le-ltb, ltb-true}
 use Rattle.alc.specs.Lists.{All}
-use Rattle.alc.specs.Ranges.{concepts}
+use Rattle.alc.proofs.Trees.{concepts}
 use Rattle.alc.specs.Meaning.{World, someBelow, everyBelow}
 use Rattle.alc.specs.Table.{Kind, fieldsBy}
 use Rattle.alc.specs.Shown.{kindAt}

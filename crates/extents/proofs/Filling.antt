@@ -13,7 +13,7 @@ use lib.Seq.{getD-set-same, getD-set-other}
 use borrow.Author.Tests.{lt-ltb, le-ltb}
 use Rattle.alc.specs.Lists.{All}
 use Rattle.alc.specs.Meaning.{World, member}
-use Rattle.alc.specs.Table.{Kind, Table, Entry, entry, entryOf, entryFields, parts, treeOf, WellFormed}
+use Rattle.alc.specs.Table.{Kind, Table, Entry, entry, entryOf, entryFields, treeOf}
 use Rattle.alc.specs.Shown.{tableOf}
 use Rattle.alc.proofs.ShownLaws.{lineAt, table-at}
 use Rattle.sets.specs.Bit.{bit}
@@ -22,6 +22,7 @@ use Rattle.models.specs.Shown.{Below, Tabled}
 use Rattle.sets.proofs.BitLaws.{zeros, bit-zero, ltb-more}
 use Rattle.extents.proofs.ExtentLaws.{clip, extent-same}
 use Rattle.alc.proofs.ListFacts.{All-map}
+use Rattle.alc.proofs.Trees.{parts, WellFormed}
 use Rattle.extents.proofs.Trees.{below-more, member-law}
 
 -- line i of the columns has its numbers in range

@@ -5,10 +5,10 @@ use native.Mathlib.Omega.{arith}
 use mathlib.Core.List.{List, [], _∷_}
 use mathlib.Core.Path.{_≡_, refl, ap, _∙_}
 use Rattle.alc.specs.Lists.{All}
-use Rattle.alc.specs.Ranges.{Field, role, atom, name, element, size, concept, concepts}
+use Rattle.alc.specs.Ranges.{Field, role, atom, name, element, size, concept}
 use Rattle.alc.specs.Meaning.{Tree, World, member}
-use Rattle.alc.specs.Table.{Table, Kind, entry, entryFields, shape, treeOf, WellFormed}
-use Rattle.alc.proofs.Trees.{law}
+use Rattle.alc.specs.Table.{Table, Kind, entry, entryFields, shape, treeOf}
+use Rattle.alc.proofs.Trees.{concepts, WellFormed, law}
 use Rattle.extents.specs.Extent.{extent}
 use Rattle.models.specs.Shown.{Below, Ranged}
 

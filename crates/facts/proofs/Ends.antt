@@ -23,7 +23,7 @@ use Rattle.alc.specs.Ranges.{inRange}
 use Rattle.alc.specs.Rows.{refusal}
 use Rattle.alc.specs.Table.{Kind, Table, Entry, entry, entryOf, entryFields}
 use Rattle.alc.specs.Meaning.{Interp}
-use Rattle.alc.specs.Claims.{Sided, claim, claimFields, good}
+use Rattle.alc.specs.Claims.{Sided, claim, claimFields, holdsBy}
 use Rattle.alc.specs.Model.{Fact, interpOf, allPlaced}
 use Rattle.alc.specs.Dossier.{saying, size}
 use Rattle.alc.specs.Shown.{Shows, kindAt, sidedOf, records, tableOf}
@@ -88,12 +88,12 @@ module _ (n : ℕ) (T : Table) (k : ℕ) (fs : List Fact) (ps ats es : List ℕ)
       let q : allPlaced fs cs ≡ false = sym (placed b e) ∙ z in
       rw (q, add-one n)
 
-  module _ (b : Bool) (e : b ≡ allSeated ps (map sidedOf (records g))) (y : b ≡ true) (w : ℕ) (f : w ≡ firstAt (good T (interpShown k ps ats es)) (map sidedOf (records g))) where
+  module _ (b : Bool) (e : b ≡ allSeated ps (map sidedOf (records g))) (y : b ≡ true) (w : ℕ) (f : w ≡ firstAt (holdsBy T (interpShown k ps ats es)) (map sidedOf (records g))) where
     all : allPlaced fs cs ≡ true
     all = sym (placed b e) ∙ y
 
-    first : firstAt (good T (interpOf k fs)) cs ≡ w
-    first = sym (f ∙ ap (λ (I : Interp). firstAt (good T I) (map sidedOf (records g))) (told-interp k fs ps ats es t) ∙ ap (firstAt (good T (interpOf k fs))) (shown g cs s))
+    first : firstAt (holdsBy T (interpOf k fs)) cs ≡ w
+    first = sym (f ∙ ap (λ (I : Interp). firstAt (holdsBy T I) (map sidedOf (records g))) (told-interp k fs ps ats es t) ∙ ap (firstAt (holdsBy T (interpOf k fs))) (shown g cs s))
 
     pub wrong-claim : (m : ℕ) → length T ≡ m → w < length cs → refused 13 (m + w + 1) ≡ modelled n (inFacts T cs k fs)
     wrong-claim m long h =

@@ -1,4 +1,4 @@
--- The line that is printed for a verdict (document 01, "The verdict"), byte for byte.
+-- The line that is printed for a verdict (document 01, "The judging program"), byte for byte.
 -- Assumes nothing.
 use Prim.Native.Nat.{ℕ, zero, suc, _+_, _/_, _%_}
 use mathlib.Core.Bool.{true, false}

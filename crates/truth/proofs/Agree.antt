@@ -10,7 +10,7 @@ use borrow.Author.Tests.{lt-ltb}
 use Rattle.alc.specs.Lists.{All, every, firstAt}
 use Rattle.alc.specs.Meaning.{member}
 use Rattle.alc.specs.Table.{Table, treeOf}
-use Rattle.alc.specs.Claims.{Claim, is, sub, link, Sided, left, right, claim, claimFields, names, truth, good}
+use Rattle.alc.specs.Claims.{Claim, is, sub, link, Sided, left, right, claim, claimFields, names, truth, holdsBy}
 use Rattle.alc.specs.Shown.{sidedOf, records}
 use Rattle.alc.specs.declared.Goal.{Goal as Records}
 use Rattle.sets.specs.Bit.{bit}
@@ -52,12 +52,12 @@ module _ (size n : ℕ) (places atoms edges ext : List ℕ) (T : Table) (known :
       (λ d l. ap₂ (λ (a b : Bool). not a || b) (same i d (h .0) l) (same j d (h .1 .0) l))
   truth-same (link r a b) h p = refl
 
-  wrong-same : (s : Sided) → All (Below n 0) (claimFields (claim s)) → every (isSeated places) (names (claim s)) ≡ true → wrongIn size ext places edges s ≡ good T (interpShown size places atoms edges) s
+  wrong-same : (s : Sided) → All (Below n 0) (claimFields (claim s)) → every (isSeated places) (names (claim s)) ≡ true → wrongIn size ext places edges s ≡ holdsBy T (interpShown size places atoms edges) s
   wrong-same (left c) h p = ap not (truth-same c h (every-All (isSeated places) (names c) p))
   wrong-same (right c) h p = truth-same c h (every-All (isSeated places) (names c) p)
 
-  pub first-good : (g : Records) → Claimed n g → Seated size places g
-      → firstAt (wrongIn size ext places edges) (map sidedOf (records g)) ≡ firstAt (good T (interpShown size places atoms edges)) (map sidedOf (records g))
-  first-good g c s =
-      first-same (wrongIn size ext places edges) (good T (interpShown size places atoms edges)) (map sidedOf (records g))
+  pub first-differs : (g : Records) → Claimed n g → Seated size places g
+      → firstAt (wrongIn size ext places edges) (map sidedOf (records g)) ≡ firstAt (holdsBy T (interpShown size places atoms edges)) (map sidedOf (records g))
+  first-differs g c s =
+      first-same (wrongIn size ext places edges) (holdsBy T (interpShown size places atoms edges)) (map sidedOf (records g))
       (All-both wrong-same (map sidedOf (records g)) (c .numbers) (every-All (λ t. every (isSeated places) (names (claim t))) (map sidedOf (records g)) (s .placed)))

@@ -10,7 +10,7 @@ ghost use mathlib.Core.List.{map};
 ghost use Prim.Native.Nat.{_<_};
 ghost use Rattle.alc.specs.Lists.{All, every, firstAt};
 ghost use Rattle.alc.specs.Meaning.{everyBelow};
-ghost use Rattle.alc.specs.Claims.{claimFields, names, good};
+ghost use Rattle.alc.specs.Claims.{claimFields, names, holdsBy};
 ghost use Rattle.alc.specs.Shown.{tableOf, claimOf, sidedOf, records};
 ghost use Rattle.sets.specs.Bit.{bit, Sized};
 ghost use Rattle.models.specs.Shown.{edgeIn, seatOf, isSeated, allSeated, interpShown, Below, Claimed, Seated, Ready, Fit};
@@ -155,7 +155,7 @@ pub fn countered(
     claims: alc::Goal,
 ) -> usize
     requires { ⌜ Ready (now kinds) (now firsts) (now seconds) count size (now places) claims ⌝ }
-    ensures { λ r. ⌜ r ≡ firstAt (good (tableOf (now (kinds .entry)) (now (firsts .entry)) (now (seconds .entry)) count) (interpShown size (now (places .entry)) (now (atoms .entry)) (now (edges .entry)))) (map sidedOf (records claims)) ⌝ }
+    ensures { λ r. ⌜ r ≡ firstAt (holdsBy (tableOf (now (kinds .entry)) (now (firsts .entry)) (now (seconds .entry)) count) (interpShown size (now (places .entry)) (now (atoms .entry)) (now (edges .entry)))) (map sidedOf (records claims)) ⌝ }
 {
     let ext = extensions(kinds, firsts, seconds, count, size, atoms, edges);
     first_wrong(claims, size, &ext, places, edges)

@@ -2,7 +2,7 @@
 use mathlib.Core.Path.{_∙_}
 use denote.Ref.{now}
 use Rattle.alc.specs.Shown.{tableOf}
-use Rattle.truth.proofs.Agree.{claimed-more, first-good}
+use Rattle.truth.proofs.Agree.{claimed-more, first-differs}
 use Rattle.truth.proofs.countered.Statement.{statement}
 use Rattle.truth.proofs.countered.Tie as tie
 
@@ -21,7 +21,7 @@ returns c =
     let s = x .before in
     let a = s .args in
     c .first-wrong .ensures
-    ∙ first-good (a .size) (a .count) (now (a .places)) (now (a .atoms)) (now (a .edges)) (x .extensions .result) (tableOf (now (a .kinds)) (now (a .firsts)) (now (a .seconds)) (a .count)) (x .extensions .ensures) (s .pre .seats .inside) (a .claims) (s .pre .claims) (s .pre .seats)
+    ∙ first-differs (a .size) (a .count) (now (a .places)) (now (a .atoms)) (now (a .edges)) (x .extensions .result) (tableOf (now (a .kinds)) (now (a .firsts)) (now (a .seconds)) (a .count)) (x .extensions .ensures) (s .pre .seats .inside) (a .claims) (s .pre .claims) (s .pre .seats)
 
 pub countered-spec : {M : Type 1} → statement M
 countered-spec = tie.close (tie.spec extensions-requires first-wrong-requires returns)
