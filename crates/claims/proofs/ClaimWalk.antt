@@ -83,8 +83,10 @@ module _ (text : List ℕ) (T : Table) (begun : ℕ) where
       word-low = stands-among l t (f .allowed) .0
 
       -- `proof`, `model`
-      turned : (s : Said) (F : State) → saying l ≡ s → refusal (rows (inClaims T (v .cs)) s) ≡ 0 → after (inClaims T (v .cs)) s ≡ F → Through text (length T) begun (inClaims T []) (n + 1) to F
-      turned s F e h q = through-next (v .so) l to F r (ap (λ u. refusal (rows (inClaims T (v .cs)) u)) e ∙ h) (ap (after (inClaims T (v .cs))) e ∙ q)
+      turned : (s : Said) (F : State) → saying l ≡ s → refusal (rows (inClaims T (v .cs)) s) ≡ 0 → after (inClaims T (v .cs)) s ≡ F
+          → Through text (length T) begun (inClaims T []) (n + 1) to F
+      turned s F e h q =
+          through-next (v .so) l to F r (ap (λ u. refusal (rows (inClaims T (v .cs)) u)) e ∙ h) (ap (after (inClaims T (v .cs))) e ∙ q)
 
       pub turns : (k : ℕ) → l .word ≡ k + 10 → 1 ≤ k → k ≤ 2 → ClaimsLead text T begun (v .cs) (n + 1) to 0 k
       unfolding rows after

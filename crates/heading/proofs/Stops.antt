@@ -27,7 +27,7 @@ use Rattle.heading.specs.declared.Listed.{Listed}
 use Rattle.heading.specs.Parts.{inTable, inClaims, inSteps, atStart, Through, none, line, TableEnd, ClaimsEnd, ClaimsLead, TableRead}
 use Rattle.heading.specs.Parts
 use Rattle.heading.proofs.Judging.{next, judge-end, judge-bad, judge-refused, unrolled}
-use Rattle.heading.proofs.Through.{Stuck, found-same, through-then, through-judge, through-bounds, through-either, through-way, way, apart}
+use Rattle.heading.proofs.Through.{Stuck, found-same, stage, through-then, through-judge, through-bounds, through-either, through-behind, both-last, apart}
 
 -- A LINE AT TWO PLACES: where its word is allowed, it is found
 module _ (p q : ℕ) (l : Line) (a : stands q l ≡ true) where
@@ -52,15 +52,17 @@ module _ (p q : ℕ) (l : Line) (a : stands q l ≡ true) where
       go (x ∷ y ∷ ps) h = item (itemOf x) (at + length x + 1) h
 
 -- the words of the table's place that are none of the table are those of the claims' place
-in-claims : (l : Line) → 8 ≤ l .word → stands 0 l ≡ true → stands 1 l ≡ true
+pub in-claims : (l : Line) → 8 ≤ l .word → stands 0 l ≡ true → stands 1 l ≡ true
 unfolding words rowOf
 in-claims l h a =
-    spans 1 8 13 (omega arith) refl (l .word) ∙ within-is 8 13 (l .word) h (within-high 0 13 (l .word) (sym (spans 0 0 13 (omega arith) refl (l .word)) ∙ a))
+    spans 1 8 13 (omega arith) refl (l .word)
+    ∙ within-is 8 13 (l .word) h (within-high 0 13 (l .word) (sym (spans 0 0 13 (omega arith) refl (l .word)) ∙ a))
 
 in-table : (l : Line) → stands 1 l ≡ true → stands 0 l ≡ true
 unfolding words rowOf
 in-table l a =
-    spans 0 0 13 (omega arith) refl (l .word) ∙ within-is 0 13 (l .word) (omega arith) (within-high 8 13 (l .word) (sym (spans 1 8 13 (omega arith) refl (l .word)) ∙ a))
+    spans 0 0 13 (omega arith) refl (l .word)
+    ∙ within-is 0 13 (l .word) (omega arith) (within-high 8 13 (l .word) (sym (spans 1 8 13 (omega arith) refl (l .word)) ∙ a))
 
 -- TABLE AND CLAIMS: behind the table the two parts have the same rows, and a line that passes leads to the same
 same-rows : (T : Table) (s : Said) → rows (inTable T) s ≡ rows (inClaims T []) s
@@ -90,8 +92,8 @@ same-refusal T s = ap refusal (same-rows T s)
 
 module _ {text : List ℕ} (T : Table) where
   -- a walk that leaves the claims as one from the end of the table
-  from-table : {n a m b : ℕ} {S E : State} → Through text n a S m b E → S ≡ inClaims T [] → (way (E .part) ≡ 0 → ⊥) → Through text n a (inTable T) m b E
-  from-table none e h = absurd (h (ap (λ (Z : State). way (Z .part)) e))
+  from-table : {n a m b : ℕ} {S E : State} → Through text n a S m b E → S ≡ inClaims T [] → 2 ≤ stage E → Through text n a (inTable T) m b E
+  from-table none e h = absurd (omega (arith, ap (λ (Z : State). stage Z) e, h))
   from-table {n} {a} {m} {b} {S} {E} (line {next = to} {l = l} r p v) e h =
       let r′ : readAt text a 1 ≡ Found l to = subst (λ (Z : State). readAt text a (place (Z .part)) ≡ Found l to) e r in
       let p′ : refusal (rows (inTable T) (saying l)) ≡ 0 = same-refusal T (saying l) ∙ subst (λ (Z : State). refusal (rows Z (saying l)) ≡ 0) e p in
@@ -99,9 +101,9 @@ module _ {text : List ℕ} (T : Table) where
       (subst (λ (Z : State). Through text (suc n) to Z m b E) (ap (λ (Z : State). after Z (saying l)) e ∙ sym (same-after T (saying l) p′)) v)
 
   -- a walk that leaves the table as one from the beginning of the claims, where the table has ended
-  from-claims : {n a m b : ℕ} {S E : State} → Through text n a S m b E → S ≡ inTable T → (way (E .part) ≡ 0 → ⊥) → TableEnd T (readAt text a 0) 0
+  from-claims : {n a m b : ℕ} {S E : State} → Through text n a S m b E → S ≡ inTable T → 2 ≤ stage E → TableEnd T (readAt text a 0) 0
       → Through text n a (inClaims T []) m b E
-  from-claims none e h d = absurd (h (ap (λ (Z : State). way (Z .part)) e))
+  from-claims none e h d = absurd (omega (arith, ap (λ (Z : State). stage Z) e, h))
   from-claims {n} {a} {m} {b} {S} {E} (line {next = to} {l = l} r p v) e h d =
       let r′ : readAt text a 0 ≡ Found l to = subst (λ (Z : State). readAt text a (place (Z .part)) ≡ Found l to) e r in
       let p′ : refusal (rows (inTable T) (saying l)) ≡ 0 = subst (λ (Z : State). refusal (rows Z (saying l)) ≡ 0) e p in
@@ -116,7 +118,8 @@ module _ {text : List ℕ} (T : Table) where
       outside x k y z Parts.over = let c : _≡_ {A = ℕ} 0 1 = cc in absurd (omega arith)
 
 -- where the next line is none of the table, or there is none, the judge does not tell the two parts apart
-same-next : (n : ℕ) (T : Table) (s : Said) (is : List Item) → next n (inTable T) s is (refusal (rows (inTable T) s)) ≡ next n (inClaims T []) s is (refusal (rows (inClaims T []) s))
+same-next : (n : ℕ) (T : Table) (s : Said) (is : List Item)
+    → next n (inTable T) s is (refusal (rows (inTable T) s)) ≡ next n (inClaims T []) s is (refusal (rows (inClaims T []) s))
 same-next n T s is = go (refusal (rows (inTable T) s)) refl ∙ ap (next n (inClaims T []) s is) (same-refusal T s)
   where
     go : (k : ℕ) → refusal (rows (inTable T) s) ≡ k → next n (inTable T) s is k ≡ next n (inClaims T []) s is k
@@ -131,15 +134,17 @@ same-judge text T n at k x e (Parts.failed w q) z = absurd (omega arith)
 same-judge text T n at k x e (Parts.other {l} {next = to} w) z =
     let f = when-found text at 0 l to e in
     let g = when-found text at 1 l to (placed 0 1 l (in-claims l w (f .allowed)) text at to e) in
-    unrolled text at 0 n (inTable T) refl l to f ∙ same-next n T (saying l) (linesOf (drop to text)) ∙ sym (unrolled text at 1 n (inClaims T []) refl l to g)
+    unrolled text at 0 n (inTable T) refl l to f
+    ∙ same-next n T (saying l) (linesOf (drop to text))
+    ∙ sym (unrolled text at 1 n (inClaims T []) refl l to g)
 same-judge text T n at k x e Parts.over z =
     let f = when-end text at 0 e in
     judge-end n (inTable T) _ f ∙ sym (judge-end n (inClaims T []) _ f)
 
 -- A REFUSAL: the judge is refused there, and no walk goes on
-record Halts (text : List ℕ) (n at : ℕ) (S : State) (k : ℕ) : Type 0 where
-  judged : judge n S (linesOf (drop at text)) ≡ refused k (suc n)
-  stuck : Stuck text at S
+pub record Halts (text : List ℕ) (n at : ℕ) (S : State) (k : ℕ) : Type 0 where
+  pub judged : judge n S (linesOf (drop at text)) ≡ refused k (suc n)
+  pub stuck : Stuck text at S
 
 module _ (text : List ℕ) (n at : ℕ) (S : State) where
   halts-wrong : readAt text at (place (S .part)) ≡ Bad → Halts text n at S 2
@@ -160,7 +165,8 @@ table-halts text T n at k x e (Parts.failed {l} {next = to} {k = j} w q) h = hal
 table-halts text T n at k x e (Parts.other w) h = absurd (h refl)
 table-halts text T n at k x e Parts.over h = absurd (h refl)
 
-claims-halts : (text : List ℕ) (T : Table) (cs : List Sided) (n at k : ℕ) (x : Next) → readAt text at 1 ≡ x → ClaimsEnd T cs x k → Halts text n at (inClaims T cs) k
+pub claims-halts : (text : List ℕ) (T : Table) (cs : List Sided) (n at k : ℕ) (x : Next) → readAt text at 1 ≡ x → ClaimsEnd T cs x k
+    → Halts text n at (inClaims T cs) k
 unfolding ending
 claims-halts text T cs n at k x e Parts.wrong = halts-wrong text n at (inClaims T cs) e
 claims-halts text T cs n at k x e (Parts.failed {l} {next = to} {k = j} q) = halts-failed text n at (inClaims T cs) l to j e q
@@ -186,22 +192,22 @@ module _ {text ks xs ys : List ℕ} {r : Listed} (t : TableRead text ks xs ys r)
       through-judge (t .read) ∙ same-judge text T (r .count) (r .at) (r .number) _ refl (t .ends) h
       ∙ ap (λ n. judge n (inClaims T []) (linesOf (drop (r .at) text))) long
 
-  -- a walk of the claims that leaves them goes on where that of the table ends; and a walk to the steps leads there if the table is not refused
-  pub table-then : {m c : ℕ} {F : State} → Through text (length T) (r .at) (inClaims T []) m c F → (way (F .part) ≡ 0 → ⊥) → Through text 0 0 begin m c F
-  table-then {m} {c} {F} v h = through-then (t .read) (from-table T (subst (λ n. Through text n (r .at) (inClaims T []) m c F) (sym long) v) refl h)
+  -- a walk that leaves the claims goes on where that of the table ends; and one that leaves them leads there, if the table is not refused
+  pub table-then : {m c : ℕ} {F : State} → Through text (length T) (r .at) (inClaims T []) m c F → 2 ≤ stage F → Through text 0 0 begin m c F
+  table-then {m} {c} {F} v h =
+      through-then (t .read) (from-table T (subst (λ n. Through text n (r .at) (inClaims T []) m c F) (sym long) v) refl h)
 
-  pub table-behind : r .number ≡ 0 → {m c : ℕ} {F : State} → Through text 0 0 begin m c F → way (F .part) ≡ 1 → Through text (length T) (r .at) (inClaims T []) m c F
+  pub table-behind : r .number ≡ 0 → {m c : ℕ} {F : State} → Through text 0 0 begin m c F → 2 ≤ stage F
+      → Through text (length T) (r .at) (inClaims T []) m c F
   table-behind h {m} {c} {F} v f = subst (λ n. Through text n (r .at) (inClaims T []) m c F) long (go (through-either (t .read) v))
     where
-      settled : way (F .part) ≡ 0 → ⊥
-      settled e = omega (arith, e, f)
+      go : Through text (r .count) (r .at) (inTable T) m c F ⊎ Through text m c F (r .count) (r .at) (inTable T)
+          → Through text (r .count) (r .at) (inClaims T []) m c F
+      go (inl u) = from-claims T u refl f (subst (TableEnd T (readAt text (r .at) 0)) h (t .ends))
+      go (inr u) = absurd (omega (arith, through-behind u f))
 
-      go : Through text (r .count) (r .at) (inTable T) m c F ⊎ Through text m c F (r .count) (r .at) (inTable T) → Through text (r .count) (r .at) (inClaims T []) m c F
-      go (inl u) = from-claims T u refl settled (subst (TableEnd T (readAt text (r .at) 0)) h (t .ends))
-      go (inr u) = let z : _≡_ {A = ℕ} 0 1 = through-way u settled ∙ f in absurd (omega arith)
-
-  pub table-apart : (r .number ≡ 0 → ⊥) → {m c : ℕ} {F : State} → Through text 0 0 begin m c F → way (F .part) ≡ 1 → ⊥
-  table-apart h v f = apart (t .read) v f (λ (z : _≡_ {A = ℕ} 0 1). omega arith) (inl (table-halts text T (r .count) (r .at) (r .number) _ refl (t .ends) h .stuck))
+  pub table-apart : (r .number ≡ 0 → ⊥) → {m c : ℕ} {F : State} → Through text 0 0 begin m c F → stage F ≡ 2 → ⊥
+  table-apart h v = apart (t .read) v (table-halts text T (r .count) (r .at) (r .number) _ refl (t .ends) h .stuck) (omega arith)
 
 -- BEHIND THE CLAIMS
 module _ {text : List ℕ} {T : Table} {begun : ℕ} {cs : List Sided} {lines at : ℕ} where
@@ -210,17 +216,21 @@ module _ {text : List ℕ} {T : Table} {begun : ℕ} {cs : List Sided} {lines at
   claims-bounds (Parts.model v) h = through-bounds v h
   claims-bounds (Parts.refused v d) h = through-bounds v h
 
-  pub claims-refused : {k t : ℕ} → ClaimsLead text T begun cs lines at k t → (k ≡ 0 → ⊥) → judge (length T) (inClaims T []) (linesOf (drop begun text)) ≡ refused k (suc lines)
+  pub claims-refused : {k t : ℕ} → ClaimsLead text T begun cs lines at k t → (k ≡ 0 → ⊥)
+      → judge (length T) (inClaims T []) (linesOf (drop begun text)) ≡ refused k (suc lines)
   claims-refused (Parts.proof v) h = absurd (h refl)
   claims-refused (Parts.model v) h = absurd (h refl)
-  claims-refused {k} (Parts.refused v d) h = through-judge v ∙ claims-halts text T cs lines at k _ refl d .judged
+  claims-refused {k} (Parts.refused v d) h =
+      through-judge v ∙ claims-halts text T cs lines at k _ refl d .judged
 
-  pub claims-proof : {k t : ℕ} → ClaimsLead text T begun cs lines at k t → t ≡ 1 → Through text (length T) begun (inClaims T []) lines at (inSteps T cs 0 (cs ∷ []))
+  pub claims-proof : {k t : ℕ} → ClaimsLead text T begun cs lines at k t → t ≡ 1
+      → Through text (length T) begun (inClaims T []) lines at (inSteps T cs 0 (cs ∷ []))
   claims-proof (Parts.proof v) e = v
   claims-proof (Parts.model v) e = absurd (omega arith)
   claims-proof (Parts.refused v d) e = absurd (omega arith)
 
-  pub claims-model : {k t : ℕ} → ClaimsLead text T begun cs lines at k t → k ≡ 0 → (t ≡ 1 → ⊥) → Through text (length T) begun (inClaims T []) lines at (atStart T cs)
+  pub claims-model : {k t : ℕ} → ClaimsLead text T begun cs lines at k t → k ≡ 0 → (t ≡ 1 → ⊥)
+      → Through text (length T) begun (inClaims T []) lines at (atStart T cs)
   claims-model (Parts.proof v) e h = absurd (h refl)
   claims-model (Parts.model v) e h = v
   claims-model {k} (Parts.refused v d) e h = absurd (positive _ k e d)
@@ -230,9 +240,9 @@ module _ {text : List ℕ} {T : Table} {begun : ℕ} {cs : List Sided} {lines at
       positive x j z (Parts.failed q) = omega arith
       positive x j z Parts.over = omega arith
 
-  -- no walk leads to the steps but behind `proof`
+  -- no walk leads to a first step but behind `proof`
   pub claims-apart : {k t : ℕ} → ClaimsLead text T begun cs lines at k t → (k ≡ 0 → t ≡ 1 → ⊥)
-      → {m c : ℕ} {F : State} → Through text (length T) begun (inClaims T []) m c F → way (F .part) ≡ 1 → ⊥
-  claims-apart (Parts.proof v) h w f = h refl refl
-  claims-apart (Parts.model v) h w f = apart v w f (λ (z : _≡_ {A = ℕ} 2 1). omega arith) (inr refl)
-  claims-apart {k} (Parts.refused v d) h w f = apart v w f (λ (z : _≡_ {A = ℕ} 0 1). omega arith) (inl (claims-halts text T cs lines at k _ refl d .stuck))
+      → {U : Table} {ds : List Sided} {m c : ℕ} → Through text (length T) begun (inClaims T []) m c (inSteps U ds 0 (ds ∷ [])) → ⊥
+  claims-apart (Parts.proof v) h w = h refl refl
+  claims-apart (Parts.model v) h w = let z : _≡_ {A = ℕ} 3 2 = ap (λ (Z : State). place (Z .part)) (both-last v w refl refl .2) in omega arith
+  claims-apart {k} (Parts.refused v d) h w = apart v w (claims-halts text T cs lines at k _ refl d .stuck) (omega arith) refl

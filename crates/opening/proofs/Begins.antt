@@ -41,7 +41,8 @@ unfolding verdict
 verdict-short n text w h = let e : refusal (outerRows n text) ≡ 0 = rw (le-leb 1088 n w, le-leb (length text) 65535 h) in ap (next text) e
 
 -- an opening after which no derivation follows
-pub opens-decided : (n : ℕ) (text : List ℕ) (o : Opening) (a : Answer) → (o ≡ decidedOf a (o .kinds) (o .firsts) (o .seconds) (begunOf (o .state .goal) 0 0)) × (o .state .goal .count ≡ 0)
+pub opens-decided : (n : ℕ) (text : List ℕ) (o : Opening) (a : Answer)
+    → (o ≡ decidedOf a (o .kinds) (o .firsts) (o .seconds) (begunOf (o .state .goal) 0 0)) × (o .state .goal .count ≡ 0)
     → ((T : Table) (cs : List Sided) (lines at : ℕ) → Follows n text T cs lines at → ⊥) → answered a ≡ verdict n text → Opens n text o
 opens-decided n text o a e none h = record {
   decides = λ _. record {
@@ -55,11 +56,15 @@ opens-decided n text o a e none h = record {
 }
 
 -- an opening after which one does
-pub opens-following : (n : ℕ) (text : List ℕ) (o : Opening) (entries : ℕ) (ks xs ys : List ℕ) (claims : Records) (at lines : ℕ) (cs : List Sided) → o ≡ followingOf entries ks xs ys (begunOf claims at lines)
-    → Columns ks xs ys entries → Fits ks xs ys entries → claims .count ≤ 64 → Shows claims cs → Follows n text (tableOf ks xs ys entries) cs lines at → Opens n text o
+pub opens-following : (n : ℕ) (text : List ℕ) (o : Opening) (entries : ℕ) (ks xs ys : List ℕ) (claims : Records) (at lines : ℕ) (cs : List Sided)
+    → o ≡ followingOf entries ks xs ys (begunOf claims at lines)
+    → Columns ks xs ys entries → Fits ks xs ys entries → claims .count ≤ 64 → Shows claims cs
+    → Follows n text (tableOf ks xs ys entries) cs lines at → Opens n text o
 opens-following n text o entries ks xs ys claims at lines cs e columns fits few shown follows = record {
   decides = λ f. absurd (false≢true (sym f ∙ ap (λ (p : Opening). p .follows) e));
-  begins = λ f. subst (Begins n text) (sym e) (record { answer = refl; columns = columns; fits = fits; state = refl; small = few; cs = cs; current = shown; follows = follows });
+  begins = λ f.
+      subst (Begins n text) (sym e)
+      (record { answer = refl; columns = columns; fits = fits; state = refl; small = few; cs = cs; current = shown; follows = follows });
 }
 
 -- no goal waits at first

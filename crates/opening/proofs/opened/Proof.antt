@@ -106,7 +106,7 @@ further k = claims-bounds (claims k .leads) (bounds (T k) .0, rw (long k) (bound
 -- no derivation follows where `proof` does not follow the claims
 apart : (k : tie.After-read-claims) → (k .read-claims .result .number ≡ 0 → k .read-claims .result .turn ≡ 1 → ⊥)
     → (U : Table) (cs : List Sided) (m to : ℕ) → Follows (S (T k) .args .records) (text (T k)) U cs m to → ⊥
-apart k h U cs m to d = claims-apart (claims k .leads) h (table-behind (table (T k)) (k .before .if3 .left) (d .walk) refl) refl
+apart k h U cs m to d = claims-apart (claims k .leads) h (table-behind (table (T k)) (k .before .if3 .left) (d .walk) (omega arith))
 
 add-t18 : tie.Need-add-t18
 add-t18 c = let k = c .before .before .before in omega (arith, further k, short (T k))
@@ -151,7 +151,7 @@ returns-6 c =
     let h = claims k in
     opens-following _ _ _ _ (ks (T k)) (xs (T k)) (ys (T k)) _ _ _ (h .cs)
     (c .following .ensures .0 ∙ ap (followingOf _ (ks (T k)) (xs (T k)) (ys (T k))) (c .before .begun .ensures)) (table (T k) .columns) (c .following .ensures .1) (h .few) (h .shown)
-    (record { wide = wide (T k); short = short (T k); walk = table-then (table (T k)) (claims-proof (h .leads) (c .before .before .if5 .left)) (λ (z : _≡_ {A = ℕ} 1 0). omega arith) })
+    (record { wide = wide (T k); short = short (T k); walk = table-then (table (T k)) (claims-proof (h .leads) (c .before .before .if5 .left)) (omega arith) })
 
 pub opened-spec : {M : Type 1} → statement M
 opened-spec =
