@@ -1,17 +1,19 @@
--- The walk over the claims: the goal shows the claims read so far, and the judge is where the walk is. Assumes nothing.
-use Prim.Native.Nat.{ℕ, suc, _+_, _≤_, _<_}
+-- The walk over the claims: the goal shows the claims that the lines read so far say, since a line is stored as it is said once its rows are passed,
+-- and they are the rows that are tested. Assumes nothing.
+use Prim.Native.Nat.{ℕ, zero, suc, _+_, _≤_, _<_}
 use native.Mathlib.Omega.{arith}
-use native.Mathlib.Numerals.{add-one}
 use mathlib.Core.Bool.{Bool, true, false, not, cond, _&&_, _||_}
 use mathlib.Core.List.{List, [], _∷_, _++_}
-use mathlib.Core.Path.{_≡_, refl, sym, ap, ap₂, _∙_}
+use mathlib.Core.Path.{_≡_, refl, sym, ap, ap₂, subst, _∙_}
 use lib.Dec.{ltb, leb}
 use lib.ListN.{length, drop, length-append}
 use borrow.Author.Tests.{ltb-true, leb-true}
-use Rattle.lines.specs.Text.{words, rowOf, wordCount, stands as allowedAt, linesOf}
+use Rattle.lines.specs.Text.{words, rowOf, wordCount, stands as allowedAt, linesOf, readAt}
 use Rattle.lines.specs.declared.Line.{Line}
+use Rattle.lines.specs.declared.Next.{Next}
+use Rattle.lines.specs.declared.Next.the-variants.{Found}
 use Rattle.lines.proofs.Told.{Told, told}
-use Rattle.reading.proofs.Loop.{Line-found, Line-bad}
+use Rattle.reading.proofs.Loop.{Line-found, when-found}
 use Rattle.alc.specs.Lists.{All, every}
 use Rattle.alc.specs.Rows.{refusal}
 use Rattle.alc.specs.Ranges.{inRange}
@@ -19,17 +21,17 @@ use Rattle.alc.specs.Meaning.{everyBelow}
 use Rattle.alc.specs.Table.{Table}
 use Rattle.alc.specs.Claims as Claims
 use Rattle.alc.specs.Claims.{Sided, claimFields}
-use Rattle.alc.specs.Dossier.{Said, claim, proof, model, saying}
+use Rattle.alc.specs.Dossier.{Said, claim, saying}
 use Rattle.alc.specs.Shown.{Shows, records, recordOf}
 use Rattle.alc.specs.declared.Goal.{Goal as Records}
 use Rattle.alc.specs.declared.Claim.{Claim as Record}
-use Rattle.alc.specs.Verdict.{refused, rows, after, ending, judge}
+use Rattle.alc.specs.Verdict.{State, rows, after}
 use Rattle.goals.proofs.RecordLaws.{and-left, and-right, below-at}
 use Rattle.goals.proofs.Steps.{map-append}
 use Rattle.heading.specs.Fields.{saidFields}
-use Rattle.heading.specs.Parts.{sidedIn, claimRows, inClaims, inSteps, atStart}
+use Rattle.heading.specs.Parts.{sidedIn, claimRows, inClaims, inSteps, atStart, Through, none, ClaimsEnd, failed, ClaimsLead, proof, model, refused}
 use Rattle.heading.proofs.Small.{small}
-use Rattle.heading.proofs.Judging.{judge-end, judge-bad, judge-next, judge-refused}
+use Rattle.heading.proofs.Through.{through-next}
 use Rattle.claims.proofs.ClaimLaws.{claim-said, rows-claim}
 
 -- the words that stand in the claims' place: the claims, `proof` and `model`: a test of all words
@@ -55,7 +57,7 @@ pub record Walk (text : List ℕ) (T : Table) (begun : ℕ) (g : Records) (at n 
   pub shown : Shows g cs
   pub count : g .count ≡ length cs
   pub ranges : All (λ s. every (inRange (length T) 0) (claimFields (Claims.claim s)) ≡ true) cs
-  pub so : judge (length T) (inClaims T []) (linesOf (drop begun text)) ≡ judge n (inClaims T cs) (linesOf (drop at text))
+  pub so : Through text (length T) begun (inClaims T []) n at (inClaims T cs)
 
 All-snoc : (P : Sided → Type 0) (l : List Sided) (x : Sided) → All P l → P x → All P (l ++ (x ∷ []))
 All-snoc P [] x h k = (k, tt)
@@ -63,17 +65,17 @@ All-snoc P (y ∷ l) x h k = (h .0, All-snoc P l x (h .1) k)
 
 module _ (text : List ℕ) (T : Table) (begun : ℕ) where
   pub walk-begin : (g : Records) (n : ℕ) → length T ≡ n → records g ≡ [] → g .count ≡ 0 → Walk text T begun g begun n
-  walk-begin g n e r c = record { cs = []; shown = r; count = c; ranges = tt; so = ap (λ k. judge k (inClaims T []) (linesOf (drop begun text))) e }
+  walk-begin g n e r c = record { cs = []; shown = r; count = c; ranges = tt; so = subst (λ k. Through text (length T) begun (inClaims T []) k begun (inClaims T [])) e none }
 
   module _ (g : Records) (at n : ℕ) (v : Walk text T begun g at n) where
-    pub stops-bad : Line-bad text at 1 → judge (length T) (inClaims T []) (linesOf (drop begun text)) ≡ refused 2 (suc n)
-    stops-bad b = v .so ∙ judge-bad text at 1 n (inClaims T (v .cs)) refl b
+    -- the walk stops
+    pub stops : (x : Next) (k : ℕ) → readAt text at 1 ≡ x → ClaimsEnd T (v .cs) x k → ClaimsLead text T begun (v .cs) n at k 0
+    stops x k e d = refused (v .so) (subst (λ y. ClaimsEnd T (v .cs) y k) (sym e) d)
 
-    pub stops-end : linesOf (drop at text) ≡ [] → judge (length T) (inClaims T []) (linesOf (drop begun text)) ≡ refused 12 (suc n)
-    unfolding ending
-    stops-end e = v .so ∙ judge-end n (inClaims T (v .cs)) _ e
+    module _ (l : Line) (to : ℕ) (r : readAt text at 1 ≡ Found l to) where
+      f : Line-found text at 1 l to
+      f = when-found text at 1 l to r
 
-    module _ (l : Line) (to : ℕ) (f : Line-found text at 1 l to) where
       t : Told l
       t = told (drop at text) l (linesOf (drop to text)) (f .lines)
 
@@ -81,33 +83,26 @@ module _ (text : List ℕ) (T : Table) (begun : ℕ) where
       word-low = stands-among l t (f .allowed) .0
 
       -- `proof`, `model`
-      turned : (s : Said) → saying l ≡ s → refusal (rows (inClaims T (v .cs)) s) ≡ 0
-          → judge (length T) (inClaims T []) (linesOf (drop begun text)) ≡ judge (suc n) (after (inClaims T (v .cs)) s) (linesOf (drop to text))
-      turned s e h =
-          v .so
-          ∙ judge-next text at 1 n (inClaims T (v .cs)) refl l to f (ap (λ r. refusal (rows (inClaims T (v .cs)) r)) e ∙ h)
-          ∙ ap (λ r. judge (suc n) (after (inClaims T (v .cs)) r) (linesOf (drop to text))) e
+      turned : (s : Said) (F : State) → saying l ≡ s → refusal (rows (inClaims T (v .cs)) s) ≡ 0 → after (inClaims T (v .cs)) s ≡ F
+          → Through text (length T) begun (inClaims T []) (n + 1) to F
+      turned s F e h q =
+          through-next (v .so) l to F r (ap (λ u. refusal (rows (inClaims T (v .cs)) u)) e ∙ h) (ap (after (inClaims T (v .cs))) e ∙ q)
 
-      pub turns-proof : l .word ≡ 11 → judge (length T) (inClaims T []) (linesOf (drop begun text)) ≡ judge (n + 1) (inSteps T (v .cs) 0 (v .cs ∷ [])) (linesOf (drop to text))
+      pub turns : (k : ℕ) → l .word ≡ k + 10 → 1 ≤ k → k ≤ 2 → ClaimsLead text T begun (v .cs) (n + 1) to 0 k
       unfolding rows after
-      turns-proof e =
-          let s : saying l ≡ proof = rw e in
-          turned proof s refl ∙ ap (λ k. judge k (inSteps T (v .cs) 0 (v .cs ∷ [])) (linesOf (drop to text))) (sym (add-one n))
-
-      pub turns-model : l .word ≡ 12 → judge (length T) (inClaims T []) (linesOf (drop begun text)) ≡ judge (n + 1) (atStart T (v .cs)) (linesOf (drop to text))
-      unfolding rows after
-      turns-model e =
-          let s : saying l ≡ model = rw e in
-          turned model s refl ∙ ap (λ k. judge k (atStart T (v .cs)) (linesOf (drop to text))) (sym (add-one n))
+      turns zero e h g = absurd (omega arith)
+      turns (suc zero) e h g = let s : saying l ≡ Said.proof = rw e in proof (turned Said.proof (inSteps T (v .cs) 0 (v .cs ∷ [])) s refl refl)
+      turns (suc (suc zero)) e h g = let s : saying l ≡ Said.model = rw e in model (turned Said.model (atStart T (v .cs)) s refl refl)
+      turns (suc (suc (suc k))) e h g = absurd (omega arith)
 
       -- a claim
       module _ (w : l .word < 11) where
         tested : (e : ℕ) → length T ≡ e → refusal (rows (inClaims T (v .cs)) (saying l)) ≡ refusal (claimRows e (g .count) l)
         tested e q = rows-claim l word-low w T (v .cs) ∙ ap₂ (λ a b. refusal (claimRows a b l)) q (sym (v .count))
 
-        pub stops-refused : (e k : ℕ) → length T ≡ e → k ≡ refusal (claimRows e (g .count) l) → (k ≡ 0 → ⊥)
-            → judge (length T) (inClaims T []) (linesOf (drop begun text)) ≡ refused k (suc n)
-        stops-refused e k q h z = v .so ∙ judge-refused text at 1 n (inClaims T (v .cs)) refl l to f k (tested e q ∙ sym h) z
+        pub fails : (e k : ℕ) → length T ≡ e → k ≡ refusal (claimRows e (g .count) l) → (k ≡ 0 → ⊥) → ClaimsEnd T (v .cs) (Found l to) k
+        fails e zero q h z = absurd (z refl)
+        fails e (suc k) q h z = failed (tested e q ∙ sym h)
 
         module _ (e : ℕ) (q : length T ≡ e) (few : e ≤ 256) (h : 0 ≡ refusal (claimRows e (g .count) l)) where
           passed : (ltb (g .count) 64 ≡ true) × (every (inRange e 0) (saidFields (saying l)) ≡ true)
@@ -128,16 +123,12 @@ module _ (text : List ℕ) (T : Table) (begun : ℕ) where
 
           pub walk-more : (g′ : Records) (c : Record) → c ≡ recordOf (sidedIn l) → records g′ ≡ records g ++ (c ∷ []) → g′ .count ≡ g .count + 1 → Walk text T begun g′ to (n + 1)
           unfolding after
-          walk-more g′ c r p m = record {
+          walk-more g′ c y p m = record {
             cs = v .cs ++ (sidedIn l ∷ []);
-            shown = p ∙ ap₂ (λ a b. a ++ (b ∷ [])) (v .shown) r ∙ sym (map-append (v .cs) (sidedIn l ∷ []));
+            shown = p ∙ ap₂ (λ a b. a ++ (b ∷ [])) (v .shown) y ∙ sym (map-append (v .cs) (sidedIn l ∷ []));
             count = m ∙ sym (length-append (v .cs) (sidedIn l ∷ []) ∙ ap (λ k. k + 1) (sym (v .count)));
             ranges =
                 All-snoc (λ s. every (inRange (length T) 0) (claimFields (Claims.claim s)) ≡ true) (v .cs) (sidedIn l) (v .ranges)
                 (ap (λ k. every (inRange k 0) (claimFields (Claims.claim (sidedIn l)))) q ∙ ap (λ s. every (inRange e 0) (saidFields s)) (sym said) ∙ passed .1);
-            so =
-                v .so
-                ∙ judge-next text at 1 n (inClaims T (v .cs)) refl l to f (tested e q ∙ sym h)
-                ∙ ap (λ s. judge (suc n) (after (inClaims T (v .cs)) s) (linesOf (drop to text))) said
-                ∙ ap (λ k. judge k (inClaims T (v .cs ++ (sidedIn l ∷ []))) (linesOf (drop to text))) (sym (add-one n));
+            so = through-next (v .so) l to (inClaims T (v .cs ++ (sidedIn l ∷ []))) r (tested e q ∙ sym h) (ap (after (inClaims T (v .cs))) said);
           }

@@ -1,13 +1,16 @@
 // The claims of a dossier, read line by line into a goal. Words and numbers come from `reading`, and no byte is seen here.
 use alc::Claim;
 use alc::Concept;
-use alc::Goal;
 use alc::Name;
 use alc::Role;
 use heading::Heading;
 use heading::ranged;
+use lines::IN_CLAIMS;
+use lines::IS;
 use lines::Line;
 use lines::Next;
+use lines::PROOF;
+use lines::SUB;
 ghost use mathlib.Core.Path.{_≡_};
 ghost use Prim.Native.Nat.{_<_, _≤_};
 ghost use lib.ListN.{length};
@@ -38,10 +41,10 @@ fn made_claim(l: Line) -> Claim
     let x = (l.n0 % 256) as u8;
     let y = (l.n1 % 256) as u8;
     let z = (l.n2 % 256) as u8;
-    if l.word == 8 {
+    if l.word == IS {
         return alc::is(side, Name(x), Concept(y));
     }
-    if l.word == 9 {
+    if l.word == SUB {
         return alc::sub(side, Concept(x), Concept(y));
     }
     alc::link(side, Role(x), Name(y), Name(z))
@@ -70,12 +73,13 @@ pub fn read_claims(text: &[u8], start: usize, entries: usize) -> Heading
     let mut n = entries;
     let mut claims = goals::empty();
     loop {
-        match reading::read(text, at, 1) {
+        match reading::read(text, at, IN_CLAIMS) {
             Next::Found(l, next) => {
-                if l.word >= 11 {
+                if l.word >= PROOF {
                     return Heading {
                         number: 0,
-                        turn: l.word - 10,
+                        // 1 for `proof`, 2 for `model`
+                        section: l.word - 10,
                         at: next,
                         lines: n + 1,
                         claims: claims,
@@ -85,7 +89,7 @@ pub fn read_claims(text: &[u8], start: usize, entries: usize) -> Heading
                 if k != 0 {
                     return Heading {
                         number: k,
-                        turn: 0,
+                        section: 0,
                         at: at,
                         lines: n,
                         claims: claims,
@@ -98,7 +102,7 @@ pub fn read_claims(text: &[u8], start: usize, entries: usize) -> Heading
             Next::Bad => {
                 return Heading {
                     number: 2,
-                    turn: 0,
+                    section: 0,
                     at: at,
                     lines: n,
                     claims: claims,
@@ -107,7 +111,7 @@ pub fn read_claims(text: &[u8], start: usize, entries: usize) -> Heading
             Next::End => {
                 return Heading {
                     number: 12,
-                    turn: 0,
+                    section: 0,
                     at: at,
                     lines: n,
                     claims: claims,

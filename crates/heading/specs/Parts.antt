@@ -5,18 +5,20 @@ use mathlib.Core.Bool.{true, not, cond}
 use mathlib.Core.List.{List, [], _∷_}
 use mathlib.Core.Path.{_≡_}
 use lib.Dec.{eqb, ltb}
-use lib.ListN.{length, getD, drop}
-use Rattle.lines.specs.Text.{linesOf}
+use lib.ListN.{length, getD}
+use Rattle.lines.specs.Text.{readAt}
 use Rattle.lines.specs.declared.Line.{Line}
+use Rattle.lines.specs.declared.Next.{Next}
+use Rattle.lines.specs.declared.Next.the-variants.{Found, Bad, End}
 use Rattle.alc.specs.Lists.{All, every}
-use Rattle.alc.specs.Rows.{Row, row}
+use Rattle.alc.specs.Rows.{Row, row, refusal}
 use Rattle.alc.specs.Ranges.{inRange}
 use Rattle.alc.specs.Table.{Table, Entry, entryOf, stands, entryFields}
 use Rattle.alc.specs.Claims.{Claim, is, sub, link, Sided, left, right, Goal, claimFields}
 use Rattle.alc.specs.Claims as Claims
 use Rattle.alc.specs.Dossier.{saying}
 use Rattle.alc.specs.Shown.{kindAt, tableOf, Shows}
-use Rattle.alc.specs.Verdict.{refused, State, table, claims, steps, start, begin, judge}
+use Rattle.alc.specs.Verdict.{State, table, claims, steps, start, place, begin, rows, after}
 use Rattle.heading.specs.declared.Listed.{Listed}
 use Rattle.heading.specs.declared.Heading.{Heading}
 use Rattle.heading.specs.Fields.{saidFields}
@@ -43,13 +45,26 @@ pub record Columns (ks xs ys : List ℕ) (n : ℕ) : Type 0 where
   pub kinds : (i : ℕ) → i < n → getD ks i 0 < 8
   pub ranges : (i : ℕ) → i < n → every (inRange i 0) (entryFields (entryOf (kindAt (getD ks i 0)) (getD xs i 0) (getD ys i 0))) ≡ true
 
--- what the reading of the table comes to: the judge's verdict, or what is left to judge
+-- the lines from a position on pass all their rows, one after the other. Before them n lines had been read, up to the position `at`, and said S;
+-- behind them m lines have been read, up to the position `to`, and say E
+pub data Through (text : List ℕ) : ℕ → ℕ → State → ℕ → ℕ → State → Type 0 where
+  none : {n at : ℕ} {S : State} → Through text n at S n at S
+  line : {n at next m to : ℕ} {S E : State} {l : Line} → readAt text at (place (S .part)) ≡ Found l next → refusal (rows S (saying l)) ≡ 0
+      → Through text (suc n) next (after S (saying l)) m to E → Through text n at S m to E
+
+-- what follows the lines of the table, and the number that it has: a line not of the form, a line of the table that does not pass a row, a line that
+-- is none of the table, or no line
+pub data TableEnd (T : Table) : Next → ℕ → Type 0 where
+  wrong : TableEnd T Bad 2
+  failed : {l : Line} {next k : ℕ} → l .word < 8 → refusal (rows (inTable T) (saying l)) ≡ suc k → TableEnd T (Found l next) (suc k)
+  other : {l : Line} {next : ℕ} → 8 ≤ l .word → TableEnd T (Found l next) 0
+  over : TableEnd T End 0
+
+-- what the reading of the table comes to: so many lines of the text are the columns' table, and what follows them has this number
 pub record TableRead (text ks xs ys : List ℕ) (r : Listed) : Type 0 where
-  pub refusal : (r .number ≡ 0 → ⊥) → judge 0 begin (linesOf text) ≡ refused (r .number) (suc (r .count))
-  pub left : r .number ≡ 0 → judge 0 begin (linesOf text) ≡ judge (r .count) (inClaims (tableOf ks xs ys (r .count)) []) (linesOf (drop (r .at) text))
   pub columns : Columns ks xs ys (r .count)
-  pub within : r .at ≤ length text
-  pub counted : r .count ≤ r .at
+  pub read : Through text 0 0 begin (r .count) (r .at) (inTable (tableOf ks xs ys (r .count)))
+  pub ends : TableEnd (tableOf ks xs ys (r .count)) (readAt text (r .at) 0) (r .number)
 
 -- the claim that a line of the text is
 abbrev pub claimIn : Line → Claim
@@ -74,14 +89,22 @@ inSteps T cs n gs = record { part = steps; table = T; claims = cs; steps = n; go
 abbrev pub atStart : Table → List Sided → State
 atStart T cs = record { part = start; table = T; claims = cs; steps = 0; goals = []; size = 0; facts = [] }
 
+-- what refuses the claims, and the number that it has: a line not of the form, a line that does not pass a row, or no line
+pub data ClaimsEnd (T : Table) (cs : List Sided) : Next → ℕ → Type 0 where
+  wrong : ClaimsEnd T cs Bad 2
+  failed : {l : Line} {next k : ℕ} → refusal (rows (inClaims T cs) (saying l)) ≡ suc k → ClaimsEnd T cs (Found l next) (suc k)
+  over : ClaimsEnd T cs End 12
+
+-- the claims cs from a position on, behind a table T, lead to `proof`, section 1, or to `model`, section 2; or they are refused, by number
+pub data ClaimsLead (text : List ℕ) (T : Table) (begun : ℕ) (cs : List Sided) (lines at : ℕ) : ℕ → ℕ → Type 0 where
+  proof : Through text (length T) begun (inClaims T []) lines at (inSteps T cs 0 (cs ∷ [])) → ClaimsLead text T begun cs lines at 0 1
+  model : Through text (length T) begun (inClaims T []) lines at (atStart T cs) → ClaimsLead text T begun cs lines at 0 2
+  refused : {k : ℕ} → Through text (length T) begun (inClaims T []) lines at (inClaims T cs) → ClaimsEnd T cs (readAt text at 1) k → ClaimsLead text T begun cs lines at k 0
+
 -- what the reading of the claims comes to, from a position on behind a table T
 pub record ClaimsRead (text : List ℕ) (T : Table) (begun : ℕ) (r : Heading) : Type 0 where
   pub cs : List Sided
   pub shown : Shows (r .claims) cs
   pub few : r .claims .count ≤ 64
   pub ranges : All (λ s. every (inRange (length T) 0) (claimFields (Claims.claim s)) ≡ true) cs
-  pub within : r .at ≤ length text
-  pub counted : r .lines ≤ r .at
-  pub refusal : (r .number ≡ 0 → ⊥) → judge (length T) (inClaims T []) (linesOf (drop begun text)) ≡ refused (r .number) (suc (r .lines))
-  pub proof : r .number ≡ 0 → r .turn ≡ 1 → judge (length T) (inClaims T []) (linesOf (drop begun text)) ≡ judge (r .lines) (inSteps T cs 0 (cs ∷ [])) (linesOf (drop (r .at) text))
-  pub model : r .number ≡ 0 → (r .turn ≡ 1 → ⊥) → judge (length T) (inClaims T []) (linesOf (drop begun text)) ≡ judge (r .lines) (atStart T cs) (linesOf (drop (r .at) text))
+  pub leads : ClaimsLead text T begun cs (r .lines) (r .at) (r .number) (r .section)

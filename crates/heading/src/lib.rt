@@ -121,7 +121,7 @@ pub struct Listed {
 // many lines were read, and the claims.
 pub struct Heading {
     pub number: u8,
-    pub turn: u8,
+    pub section: u8,
     pub at: usize,
     pub lines: usize,
     pub claims: Goal,

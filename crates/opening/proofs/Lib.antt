@@ -1,2 +1,3 @@
--- `Begins`: the rows before the first line, and what an opening comes to.
+-- `Begins`: the rows before the first line, and what an opening comes to. `Determined`: a text has one opening.
 pub mod Begins
+pub mod Determined

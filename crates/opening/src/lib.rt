@@ -3,6 +3,7 @@ use alc::Answer;
 use states::State;
 ghost use mathlib.Core.Path.{_≡_};
 ghost use Prim.Native.Nat.{_≤_};
+ghost use Rattle.states.specs.Standing.{begunOf};
 ghost use Rattle.steps.specs.Acting.{Fits};
 ghost use Rattle.opening.specs.Opened.{Opens, decidedOf, followingOf};
 
@@ -19,7 +20,7 @@ pub struct Opening {
 
 // No derivation follows.
 fn decided(answer: Answer) -> Opening
-    ensures { λ r. ⌜ r ≡ decidedOf answer (r .kinds) (r .firsts) (r .seconds) (r .state) ⌝ }
+    ensures { λ r. ⌜ (r ≡ decidedOf answer (r .kinds) (r .firsts) (r .seconds) (begunOf (r .state .goal) 0 0)) × (r .state .goal .count ≡ 0) ⌝ }
 {
     Opening {
         follows: false,
@@ -76,7 +77,7 @@ pub fn opened(text: &[u8], records: usize) -> Opening
         return decided(Answer::Refused(h.number, h.lines + 1));
     }
     let claims = h.claims;
-    if h.turn != 1 {
+    if h.section != 1 {
         return decided(facts::judge_model(
             text,
             h.at,

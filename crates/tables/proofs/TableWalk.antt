@@ -1,35 +1,34 @@
--- The walk over the lines of the table: what has been stored is the table read so far, and the judge is where the walk is. Assumes nothing.
-use Prim.Native.Nat.{ℕ, suc, _+_, _≤_, _<_, _%_}
+-- The walk over the lines of the table: what has been stored is the table that the lines read so far say, since a line is stored as it is said once
+-- its rows are passed, and they are the rows that are tested. Assumes nothing.
+use Prim.Native.Nat.{ℕ, zero, suc, _+_, _≤_, _<_, _%_}
 use native.Mathlib.Omega.{arith}
 use native.Mathlib.Nat.{not-suc-le-zero}
-use native.Mathlib.Numerals.{add-one}
 use native.Mathlib.Decide.{ℕ-discrete}
-use mathlib.Core.Bool.{Bool, true, false, not, cond, _&&_, _||_}
-use mathlib.Core.List.{List, []}
-use mathlib.Core.Path.{_≡_, refl, sym, ap, ap₂, _∙_}
-use lib.Dec.{ltb, leb}
+use mathlib.Core.Bool.{Bool, true, false, not, cond}
+use mathlib.Core.List.{List}
+use mathlib.Core.Path.{_≡_, refl, sym, ap, subst, _∙_}
+use lib.Dec.{ltb}
 use lib.ListN.{length, getD, set, drop}
 use lib.Seq.{getD-set-same, getD-set-other}
-use borrow.Author.Tests.{le-leb, ltb-true}
-use Rattle.lines.specs.Text.{words, rowOf, wordCount, stands as allowedAt, linesOf}
+use borrow.Author.Tests.{ltb-true}
+use Rattle.lines.specs.Text.{linesOf, readAt}
 use Rattle.lines.specs.declared.Line.{Line}
-use Rattle.lines.specs.declared.Item.{Item}
+use Rattle.lines.specs.declared.Next.{Next}
+use Rattle.lines.specs.declared.Next.the-variants.{Found}
 use Rattle.lines.proofs.Told.{Told, told}
-use Rattle.reading.proofs.Loop.{Line-found, Line-bad}
+use Rattle.reading.proofs.Loop.{Line-found, when-found}
 use Rattle.alc.specs.Lists.{every}
 use Rattle.alc.specs.Rows.{refusal}
 use Rattle.alc.specs.Ranges.{inRange}
-use Rattle.alc.specs.Meaning.{everyBelow}
 use Rattle.alc.specs.Table.{Entry, Table, entryOf, stands, entryFields}
-use Rattle.alc.specs.Dossier.{Said, concept, claim, proof, model, step, size, fact, unread, saying}
+use Rattle.alc.specs.Dossier.{concept, saying}
 use Rattle.alc.specs.Shown.{kindAt, tableOf}
-use Rattle.alc.specs.Verdict.{refused, rows, after, ending, judge, begin}
+use Rattle.alc.specs.Verdict.{rows, after, begin}
 use Rattle.alc.proofs.ShownLaws.{table-length, table-more}
-use Rattle.goals.proofs.RecordLaws.{below-at}
 use Rattle.heading.specs.Fields.{saidFields}
-use Rattle.heading.specs.Parts.{entryIn, entryRows, inTable, inClaims, Columns}
+use Rattle.heading.specs.Parts.{entryIn, entryRows, inTable, Columns, Through, none, TableEnd, failed, TableRead}
 use Rattle.heading.proofs.Small.{Small, small}
-use Rattle.heading.proofs.Judging.{judge-end, judge-bad, judge-next, judge-refused, unrolled, next}
+use Rattle.heading.proofs.Through.{through-next}
 use Rattle.heading.proofs.TableLaws.{entry-said, said-entry}
 
 -- the judge's rows of a line of the table are those that are tested
@@ -49,49 +48,17 @@ module _ (T : Table) (few : length T ≤ 256) (l : Line) (t : Told l) (w : l .wo
           let e : every (inRange (length T) 0) (entryFields (entryOf (kindAt (l .word)) (l .n0) (l .n1))) ≡ false = ap (λ s. every (inRange (length T) 0) (saidFields s)) (sym plain) ∙ h in
           ap (λ s. refusal (rows (inTable T) s)) plain ∙ (rw (e, h))
 
--- from the table to the claims: where the next line is no line of the table, the judge does not tell the two parts apart
-same-next : (n : ℕ) (T : Table) (s : Said) (is : List Item)
-    → next n (inTable T) s is (refusal (rows (inTable T) s)) ≡ next n (inClaims T []) s is (refusal (rows (inClaims T []) s))
-unfolding rows after
-same-next n T (concept e) is = refl
-same-next n T (claim s) is = refl
-same-next n T proof is = refl
-same-next n T model is = refl
-same-next n T (step s) is = refl
-same-next n T (size k) is = refl
-same-next n T (fact f) is = refl
-same-next n T unread is = refl
-
--- a word that stands in the table's place and is none of the table's stands in the claims' place: a test of all words
-passes-on : ℕ → Bool
-passes-on w = not (leb 8 w) || (not (leb (rowOf w .first) 0 && leb 0 (rowOf w .last)) || (leb (rowOf w .first) 1 && leb 1 (rowOf w .last)))
-
-all-pass-on : everyBelow wordCount passes-on ≡ true
-unfolding passes-on words rowOf
-all-pass-on = refl
-
-stands-on : (l : Line) → Told l → 8 ≤ l .word → allowedAt 0 l ≡ true → allowedAt 1 l ≡ true
-unfolding passes-on
-stands-on l t h a = go (below-at passes-on wordCount all-pass-on (l .word) (t .known))
-  where
-    go : passes-on (l .word) ≡ true → allowedAt 1 l ≡ true
-    go e = rw (le-leb 8 (l .word) h, a) at e
-
 -- the walk: n lines stored in the columns, the next at `at`
 pub record Walk (text ks xs ys : List ℕ) (at n : ℕ) : Type 0 where
-  pub within : at ≤ length text
-  pub counted : n ≤ at
   pub columns : Columns ks xs ys n
-  pub so : judge 0 begin (linesOf text) ≡ judge n (inTable (tableOf ks xs ys n)) (linesOf (drop at text))
+  pub so : Through text 0 0 begin n at (inTable (tableOf ks xs ys n))
 
 module _ (text ks xs ys : List ℕ) where
   pub walk-begin : Walk text ks xs ys 0 0
   unfolding tableOf
   walk-begin = record {
-    within = omega arith;
-    counted = omega arith;
     columns = record { few = omega arith; kinds = λ i h. absurd (not-suc-le-zero h); ranges = λ i h. absurd (not-suc-le-zero h) };
-    so = refl;
+    so = none;
   }
 
   module _ (at n : ℕ) (v : Walk text ks xs ys at n) where
@@ -101,25 +68,20 @@ module _ (text ks xs ys : List ℕ) where
     few : length T ≤ 256
     few = rw (table-length ks xs ys n) (v .columns .few)
 
-    -- the walk stops: at a line that is refused, at the end or at a line that is no line of the table
-    pub stops-bad : Line-bad text at 0 → judge 0 begin (linesOf text) ≡ refused 2 (suc n)
-    stops-bad b = v .so ∙ judge-bad text at 0 n (inTable T) refl b
+    -- the walk stops
+    pub stops : (x : Next) (k : ℕ) → readAt text at 0 ≡ x → TableEnd T x k → TableRead text ks xs ys (record { number = k; at = at; count = n })
+    stops x k e d = record { columns = v .columns; read = v .so; ends = subst (λ y. TableEnd T y k) (sym e) d }
 
-    pub stops-end : linesOf (drop at text) ≡ [] → judge 0 begin (linesOf text) ≡ judge n (inClaims T []) (linesOf (drop at text))
-    unfolding ending
-    stops-end e = v .so ∙ judge-end n (inTable T) _ e ∙ sym (judge-end n (inClaims T []) _ e)
+    module _ (l : Line) (to : ℕ) (r : readAt text at 0 ≡ Found l to) where
+      f : Line-found text at 0 l to
+      f = when-found text at 0 l to r
 
-    module _ (l : Line) (to : ℕ) (f : Line-found text at 0 l to) where
       t : Told l
       t = told (drop at text) l (linesOf (drop to text)) (f .lines)
 
-      pub stops-here : 8 ≤ l .word → judge 0 begin (linesOf text) ≡ judge n (inClaims T []) (linesOf (drop at text))
-      stops-here h =
-          let g : Line-found text at 1 l to = record { lines = f .lines; allowed = stands-on l t h (f .allowed); later = f .later; within = f .within } in
-          v .so ∙ unrolled text at 0 n (inTable T) refl l to f ∙ same-next n T (saying l) (linesOf (drop to text)) ∙ sym (unrolled text at 1 n (inClaims T []) refl l to g)
-
-      pub stops-refused : (k : ℕ) → l .word < 8 → k ≡ refusal (entryRows T l) → (k ≡ 0 → ⊥) → judge 0 begin (linesOf text) ≡ refused k (suc n)
-      stops-refused k w e h = v .so ∙ judge-refused text at 0 n (inTable T) refl l to f k (rows-entry T few l t w ∙ sym e) h
+      pub fails : (k : ℕ) → l .word < 8 → k ≡ refusal (entryRows T l) → (k ≡ 0 → ⊥) → TableEnd T (Found l to) k
+      fails zero w e h = absurd (h refl)
+      fails (suc k) w e h = failed w (rows-entry T few l t w ∙ sym e)
 
       -- the walk goes on: the line is stored
       module _ (w : l .word < 8) (e : 0 ≡ refusal (entryRows T l)) where
@@ -187,14 +149,11 @@ module _ (text ks xs ys : List ℕ) where
           pub walk-more : Walk text ks′ xs′ ys′ to (n + 1)
           unfolding after
           walk-more = record {
-            within = f .within;
-            counted = omega (arith, v .counted, f .later);
             columns = more;
             so =
-                v .so
-                ∙ judge-next text at 0 n (inTable T) refl l to f (rows-entry T few l t w ∙ sym e)
-                ∙ ap (λ s. judge (suc n) (after (inTable T) s) (linesOf (drop to text))) (entry-said l t fits w)
-                ∙ ap₂ (λ k U. judge k (inTable U) (linesOf (drop to text))) (sym (add-one n)) (sym (table-more ks xs ys n (l .word) (l .n0 % 256) (l .n1 % 256) (omega (arith, room)) (omega (arith, room)) (omega (arith, room))));
+                through-next (v .so) l to (inTable (tableOf ks′ xs′ ys′ (n + 1))) r (rows-entry T few l t w ∙ sym e)
+                (ap (after (inTable T)) (entry-said l t fits w)
+                ∙ ap inTable (sym (table-more ks xs ys n (l .word) (l .n0 % 256) (l .n1 % 256) (omega (arith, room)) (omega (arith, room)) (omega (arith, room)))));
           }
 
           -- the same of what was stored

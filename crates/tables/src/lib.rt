@@ -2,6 +2,8 @@
 use goals::Entry;
 use heading::Listed;
 use heading::ranged;
+use lines::IN_TABLE;
+use lines::IS;
 use lines::Line;
 use lines::Next;
 ghost use mathlib.Core.Path.{_≡_};
@@ -98,9 +100,9 @@ pub fn read_table(
     let mut at = 0;
     let mut n: usize = 0;
     loop {
-        match reading::read(text, at, 0) {
+        match reading::read(text, at, IN_TABLE) {
             Next::Found(l, next) => {
-                if l.word >= 8 {
+                if l.word >= IS {
                     return Listed {
                         number: 0,
                         at: at,

@@ -1,20 +1,21 @@
--- `claims::read_claims` meets its contract. The invariant: the goal shows the claims read so far, and the judge is where the walk is,
--- whatever the table of so many lines. The measure is what is left of the text. Assumes nothing.
-use Prim.Native.Nat.{ℕ, suc, _-_, _≤_}
-use mathlib.Core.List.{List, []}
-use mathlib.Core.Path.{_≡_, refl, sym, _∙_}
+-- `claims::read_claims` meets its contract. The invariant: the lines read have passed, and the goal shows their claims, whatever the table of so
+-- many lines. The measure is what is left of the text. Assumes nothing.
+use Prim.Native.Nat.{ℕ, _-_, _≤_}
+use mathlib.Core.List.{List}
+use mathlib.Core.Path.{_≡_, sym, _∙_}
 use native.Mathlib.Omega.{arith}
-use lib.ListN.{length, drop}
+use lib.ListN.{length}
 use denote.Ref.{now}
 use borrow.Author.Needs.{needs}
-use Rattle.lines.specs.Text.{linesOf}
-use Rattle.reading.proofs.Loop.{Line-found, when-found, when-bad, when-end}
+use Rattle.lines.specs.Text.{readAt}
+use Rattle.lines.specs.declared.Next.{Next}
+use Rattle.lines.specs.declared.Next.the-variants.{Found, Bad, End}
+use Rattle.reading.proofs.Loop.{Line-found, when-found}
 use Rattle.lines.proofs.Told.{Told, told}
 use Rattle.alc.specs.Table.{Table}
-use Rattle.alc.specs.Verdict.{refused, judge}
 use Rattle.goals.proofs.RecordLaws.{with-more, with-count}
-use Rattle.heading.specs.Parts.{inClaims, ClaimsRead}
-use Rattle.claims.proofs.ClaimWalk.{Walk, walk-begin, walk-more, stops-bad, stops-end, stops-refused, turns-proof, turns-model, room, stands-among}
+use Rattle.heading.specs.Parts.{ClaimsEnd, wrong, over, ClaimsRead}
+use Rattle.claims.proofs.ClaimWalk.{Walk, walk-begin, walk-more, stops, fails, turns, room, stands-among}
 use Rattle.claims.proofs.read_claims.Statement.{statement}
 use Rattle.claims.proofs.read_claims.Tie as tie
 
@@ -52,61 +53,55 @@ start a = a .before .before .before .args .start
 abbrev entries : tie.At-loop Inv-loop μ-loop → ℕ
 entries a = a .before .before .before .args .entries
 
-found : (c : tie.After-l Inv-loop μ-loop) → Line-found (text (A c)) (A c .loop .at) 1 (c .l .given .0 .0) (c .l .given .0 .1 .0)
-found c = when-found (text (A c)) (A c .loop .at) 1 (c .l .given .0 .0) (c .l .given .0 .1 .0) (sym (c .before .before .read .ensures) ∙ c .l .given .1)
+found : (c : tie.After-l Inv-loop μ-loop) → readAt (text (A c)) (A c .loop .at) 1 ≡ Found (c .l .given .0 .0) (c .l .given .0 .1 .0)
+found c = sym (c .before .before .read .ensures) ∙ c .l .given .1
+
+line : (c : tie.After-l Inv-loop μ-loop) → Line-found (text (A c)) (A c .loop .at) 1 (c .l .given .0 .0) (c .l .given .0 .1 .0)
+line c = when-found _ _ _ _ _ (found c)
 
 known : (c : tie.After-l Inv-loop μ-loop) → Told (c .l .given .0 .0)
-known c = told _ _ _ (found c .lines)
+known c = told _ _ _ (line c .lines)
 
 word : (c : tie.After-l Inv-loop μ-loop) → (8 ≤ c .l .given .0 .0 .word) × (c .l .given .0 .0 .word ≤ 12)
-word c = stands-among _ (known c) (found c .allowed)
+word c = stands-among _ (known c) (line c .allowed)
 
 sub-t12 : tie.Need-sub-t12 Inv-loop μ-loop
 sub-t12 c = omega (arith, c .before .if1 .taken)
 
 add-t13 : tie.Need-add-t13 Inv-loop μ-loop
-add-t13 c = let l = c .before .before .before .before in let f = found l in omega (arith, f .later, f .within, A l .loop .inv .1)
+add-t13 c = let l = c .before .before .before .before in let f = line l in omega (arith, f .later, f .within, A l .loop .inv .1)
 
 returns : tie.Need-returns Inv-loop μ-loop
 returns c T q =
     let h = c .before in
     let l = h .before .before .before in
     let a = A l in
-    let f = found l in
+    let f = line l in
     let v = a .loop .inv .3 T q in
-    let w = l .l .given .0 .0 .word in
     record {
       cs = v .cs;
       shown = v .shown;
       few = a .loop .inv .2;
       ranges = v .ranges;
-      within = f .within;
-      counted = omega (arith, f .later, a .loop .inv .1);
-      refusal = λ z. absurd (z refl);
-      proof = λ z (g : w - 10 ≡ 1). turns-proof _ T _ _ _ _ v _ _ f (omega (arith, h .if1 .taken));
-      model = λ z (g : w - 10 ≡ 1 → ⊥). turns-model _ T _ _ _ _ v _ _ f (omega (arith, h .if1 .taken, word l .1));
+      leads = turns _ T _ _ _ _ v _ _ (found l) _ (omega (arith, h .if1 .taken)) (omega (arith, h .if1 .taken)) (omega (arith, h .if1 .taken, word l .1));
     }
 
 claim-refusal-requires : tie.Need-claim-refusal-requires Inv-loop μ-loop
 claim-refusal-requires c κs = known (c .before .before .before) .known
 
 -- what the walk came to, where it is refused
-stopped : (a : tie.At-loop Inv-loop μ-loop) (k : ℕ) → (k ≡ 0 → ⊥)
-    → ((T : Table) → length T ≡ entries a → judge (length T) (inClaims T []) (linesOf (drop (start a) (text a))) ≡ refused k (suc (a .loop .n)))
+stopped : (a : tie.At-loop Inv-loop μ-loop) (k : ℕ) (x : Next) → readAt (text a) (a .loop .at) 1 ≡ x
+    → ((T : Table) (q : length T ≡ entries a) → ClaimsEnd T (a .loop .inv .3 T q .cs) x k)
     → (T : Table) → length T ≡ entries a
-    → ClaimsRead (text a) T (start a) (record { number = k; turn = 0; at = a .loop .at; lines = a .loop .n; claims = a .loop .claims })
-stopped a k z f T q =
+    → ClaimsRead (text a) T (start a) (record { number = k; section = 0; at = a .loop .at; lines = a .loop .n; claims = a .loop .claims })
+stopped a k x e d T q =
     let v = a .loop .inv .3 T q in
     record {
       cs = v .cs;
       shown = v .shown;
       few = a .loop .inv .2;
       ranges = v .ranges;
-      within = a .loop .inv .0;
-      counted = a .loop .inv .1;
-      refusal = λ h. f T q;
-      proof = λ h g. absurd (z h);
-      model = λ h g. absurd (z h);
+      leads = stops _ T _ _ _ _ v x k e (d T q);
     }
 
 returns-2 : tie.Need-returns-2 Inv-loop μ-loop
@@ -115,8 +110,8 @@ returns-2 c =
     let e = r .before in
     let l = e .before .before .before in
     let a = A l in
-    stopped a (r .claim-refusal .result) (c .if2 .taken)
-    (λ T q. stops-refused _ T _ _ _ _ (a .loop .inv .3 T q) _ _ (found l) (e .if1 .left) (entries a) (r .claim-refusal .result) q (r .claim-refusal .ensures) (c .if2 .taken))
+    stopped a _ _ (found l)
+    (λ T q. fails _ T _ _ _ _ (a .loop .inv .3 T q) _ _ (found l) (e .if1 .left) (entries a) _ q (r .claim-refusal .ensures) (c .if2 .taken))
 
 made-claim-requires : tie.Need-made-claim-requires Inv-loop μ-loop
 made-claim-requires c κs = let e = c .before .before in (word (e .before .before .before) .0, e .if1 .left)
@@ -128,16 +123,16 @@ abbrev L : tie.After-with Inv-loop μ-loop → tie.After-l Inv-loop μ-loop
 L c = c .before .before .before .before .before .before .before
 
 add-n : tie.Need-add-n Inv-loop μ-loop
-add-n c = let f = found (L c) in omega (arith, f .later, f .within, A (L c) .loop .inv .1)
+add-n c = let f = line (L c) in omega (arith, f .later, f .within, A (L c) .loop .inv .1)
 
 loop-less : tie.Need-loop-less Inv-loop μ-loop
-loop-less c = let f = found (L c) in omega (arith, f .later, f .within)
+loop-less c = let f = line (L c) in omega (arith, f .later, f .within)
 
 loop-again : tie.Need-loop-again Inv-loop μ-loop
 loop-again c =
     let l = L c in
     let a = A l in
-    let f = found l in
+    let f = line l in
     let e = c .before .before .before .before in
     let w = c .with .ensures in (
       f .within,
@@ -147,8 +142,8 @@ loop-again c =
           let v = a .loop .inv .3 T q in
           let k = c .before .before .before in
           let z = sym (c .before .before .if2 .left) ∙ k .claim-refusal .ensures in
-          let less = room _ T _ _ _ _ v _ _ f (e .if1 .left) (entries a) q (a .before .before .before .pre .2) z in
-          walk-more _ T _ _ _ _ v _ _ f (e .if1 .left) (entries a) q (a .before .before .before .pre .2) z (c .with .result) _ (c .before .made-claim .ensures)
+          let less = room _ T _ _ _ _ v _ _ (found l) (e .if1 .left) (entries a) q (a .before .before .before .pre .2) z in
+          walk-more _ T _ _ _ _ v _ _ (found l) (e .if1 .left) (entries a) q (a .before .before .before .pre .2) z (c .with .result) _ (c .before .made-claim .ensures)
           (with-more (a .loop .claims .count) _ _ _ less (w .0)) (with-more (a .loop .claims .count) _ _ _ less (w .1)),
     )
 
@@ -158,8 +153,7 @@ enum-told c = search needs
 returns-3 : tie.Need-returns-3 Inv-loop μ-loop
 returns-3 c =
     let a = c .before .before .before in
-    let b = when-bad _ _ _ (sym (c .before .before .read .ensures) ∙ c .enum-told .given .1) in
-    stopped a 2 (λ h. omega arith) (λ T q. stops-bad _ T _ _ _ _ (a .loop .inv .3 T q) b)
+    stopped a 2 Bad (sym (c .before .before .read .ensures) ∙ c .enum-told .given .1) (λ T q. wrong)
 
 enum-told-2 : tie.Need-enum-told-2 Inv-loop μ-loop
 enum-told-2 c = search needs
@@ -167,8 +161,7 @@ enum-told-2 c = search needs
 returns-4 : tie.Need-returns-4 Inv-loop μ-loop
 returns-4 c =
     let a = c .before .before .before in
-    let b = when-end _ _ _ (sym (c .before .before .read .ensures) ∙ c .enum-told2 .given .1) in
-    stopped a 12 (λ h. omega arith) (λ T q. stops-end _ T _ _ _ _ (a .loop .inv .3 T q) b)
+    stopped a 12 End (sym (c .before .before .read .ensures) ∙ c .enum-told2 .given .1) (λ T q. over)
 
 pub read-claims-spec : {M : Type 1} → statement M
 read-claims-spec =

@@ -1,8 +1,9 @@
--- `opening::opened` meets its contract: each part of the dossier is judged where the part before it left off. Assumes nothing.
+-- `opening::opened` meets its contract: each part of the dossier is read from where the part before it ends, so the walks over the parts are one.
+-- Assumes nothing.
 use Prim.Native.Nat.{ℕ, _≤_}
 use mathlib.Core.List.{List, [], map}
 use mathlib.Core.Bool.{true}
-use mathlib.Core.Path.{_≡_, sym, ap, subst, _∙_}
+use mathlib.Core.Path.{_≡_, refl, sym, ap, subst, _∙_}
 use native.Mathlib.Omega.{arith}
 use native.Mathlib.Numerals.{add-one}
 use lib.ListN.{length, drop}
@@ -17,16 +18,22 @@ use Rattle.alc.specs.Shown.{tableOf, sidedOf, records}
 use Rattle.alc.specs.Verdict.{refused, judge as judgeFrom, begin, verdict}
 use Rattle.alc.proofs.ShownLaws.{table-length, all-back}
 use Rattle.heading.specs.Parts.{inClaims, TableRead, ClaimsRead}
-use Rattle.opening.specs.Opened.{followingOf}
+use Rattle.heading.proofs.Through.{through-judge, through-bounds}
+use Rattle.heading.proofs.Stops.{table-refused, table-left, table-then, table-behind, table-apart, claims-bounds, claims-refused, claims-proof, claims-model, claims-apart}
+use Rattle.opening.specs.Opened.{followingOf, Follows}
 use Rattle.opening.proofs.Begins.{verdict-narrow, verdict-long, verdict-short, opens-decided, opens-following}
 use Rattle.opening.proofs.opened.Statement.{statement}
 use Rattle.opening.proofs.opened.Tie as tie
 
 returns : tie.Need-returns
-returns c = opens-decided _ _ _ _ (c .decided .ensures) (sym (verdict-narrow _ _ (c .before .if1 .taken)))
+returns c =
+    let h = c .before .if1 .taken in
+    opens-decided _ _ _ _ (c .decided .ensures) (λ T cs lines at d. omega (arith, h, d .wide)) (sym (verdict-narrow _ _ h))
 
 returns-2 : tie.Need-returns-2
-returns-2 c = opens-decided _ _ _ _ (c .decided2 .ensures) (sym (verdict-long _ _ (c .before .before .if1 .left) (c .before .if2 .taken)))
+returns-2 c =
+    let h = c .before .if2 .taken in
+    opens-decided _ _ _ _ (c .decided2 .ensures) (λ T cs lines at d. omega (arith, h, d .short)) (sym (verdict-long _ _ (c .before .before .if1 .left) h))
 
 -- behind the table
 abbrev S : tie.After-read-table → tie.Start
@@ -60,10 +67,16 @@ returns-3 : tie.Need-returns-3
 returns-3 c =
     let t = c .before .before .before .before in
     let n = t .read-table .result in
-    opens-decided _ _ _ _ (c .decided3 .ensures) (sym (begun t ∙ table t .refusal (c .before .before .if3 .taken) ∙ ap (refused (n .number)) (sym (add-one (n .count)))))
+    let h = c .before .before .if3 .taken in
+    opens-decided _ _ _ _ (c .decided3 .ensures) (λ T cs lines at d. table-apart (table t) h (d .walk) refl)
+    (sym (begun t ∙ table-refused (table t) h ∙ ap (refused (n .number)) (sym (add-one (n .count)))))
+
+-- the next line begins within the text, behind as many bytes as lines at least
+bounds : (t : tie.After-read-table) → (t .read-table .result .at ≤ length (text t)) × (t .read-table .result .count ≤ t .read-table .result .at)
+bounds t = through-bounds (table t .read) (omega arith, omega arith)
 
 read-claims-requires : tie.Need-read-claims-requires
-read-claims-requires c κs = let t = table (c .before .before) in (t .within, t .counted, t .columns .few)
+read-claims-requires c κs = let t = c .before .before in (bounds t .0, bounds t .1, table t .columns .few)
 
 -- behind the claims
 abbrev T : tie.After-read-claims → tie.After-read-table
@@ -79,10 +92,7 @@ claims : (k : tie.After-read-claims) → ClaimsRead (text (T k)) (lines k) (T k 
 claims k = k .read-claims .ensures (lines k) (long k)
 
 headed : (k : tie.After-read-claims) → verdict (S (T k) .args .records) (text (T k)) ≡ judgeFrom (length (lines k)) (inClaims (lines k) []) (linesOf (drop (T k .read-table .result .at) (text (T k))))
-headed k =
-    begun (T k)
-    ∙ table (T k) .left (k .before .if3 .left)
-    ∙ ap (λ (n : ℕ). judgeFrom n (inClaims (lines k) []) (linesOf (drop (T k .read-table .result .at) (text (T k))))) (sym (long k))
+headed k = begun (T k) ∙ table-left (table (T k)) (k .before .if3 .left)
 
 ranged : (k : tie.After-read-claims) → All (λ s. every (inRange (T k .read-table .result .count) 0) (claimFields (claim s)) ≡ true) (map sidedOf (records (k .read-claims .result .claims)))
 ranged k =
@@ -90,14 +100,24 @@ ranged k =
     subst (λ (l : List Sided). All (λ s. every (inRange (T k .read-table .result .count) 0) (claimFields (claim s)) ≡ true) l) (sym (ap (map sidedOf) (h .shown) ∙ all-back (h .cs)))
     (subst (λ (n : ℕ). All (λ s. every (inRange n 0) (claimFields (claim s)) ≡ true) (h .cs)) (long k) (h .ranges))
 
+further : (k : tie.After-read-claims) → (k .read-claims .result .at ≤ length (text (T k))) × (k .read-claims .result .lines ≤ k .read-claims .result .at)
+further k = claims-bounds (claims k .leads) (bounds (T k) .0, rw (long k) (bounds (T k) .1))
+
+-- no derivation follows where `proof` does not follow the claims
+apart : (k : tie.After-read-claims) → (k .read-claims .result .number ≡ 0 → k .read-claims .result .section ≡ 1 → ⊥)
+    → (U : Table) (cs : List Sided) (m to : ℕ) → Follows (S (T k) .args .records) (text (T k)) U cs m to → ⊥
+apart k h U cs m to d = claims-apart (claims k .leads) h (table-behind (table (T k)) (k .before .if3 .left) (d .walk) (omega arith))
+
 add-t18 : tie.Need-add-t18
-add-t18 c = let k = c .before .before .before in omega (arith, claims k .within, claims k .counted, short (T k))
+add-t18 c = let k = c .before .before .before in omega (arith, further k, short (T k))
 
 returns-4 : tie.Need-returns-4
 returns-4 c =
     let k = c .before .before .before .before in
     let n = k .read-claims .result in
-    opens-decided _ _ _ _ (c .decided4 .ensures) (sym (headed k ∙ claims k .refusal (c .before .before .if4 .taken) ∙ ap (refused (n .number)) (sym (add-one (n .lines)))))
+    let h = c .before .before .if4 .taken in
+    opens-decided _ _ _ _ (c .decided4 .ensures) (apart k (λ z e. h z))
+    (sym (headed k ∙ claims-refused (claims k .leads) h ∙ ap (refused (n .number)) (sym (add-one (n .lines)))))
 
 -- the claims of a model
 abbrev M : tie.After-struct-known5 → tie.After-read-claims
@@ -108,8 +128,8 @@ judge-model-requires c κs =
     let k = M (c .before .before .before .before) in
     let h = claims k in
     record {
-      within = h .within;
-      counted = h .counted;
+      within = further k .0;
+      counted = further k .1;
       columns = table (T k) .columns;
       few = h .few;
       ranges = ranged k;
@@ -120,15 +140,18 @@ returns-5 c =
     let f = c .before .before .before .before .before .before in
     let k = M f in
     let h = claims k in
-    opens-decided _ _ _ _ (c .decided5 .ensures) (c .before .judge-model .ensures (h .cs) (h .shown) ∙ sym (headed k ∙ h .model (f .before .before .if4 .left) (c .before .before .before .before .before .if5 .taken)))
+    let g = c .before .before .before .before .before .if5 .taken in
+    opens-decided _ _ _ _ (c .decided5 .ensures) (apart k (λ z. g))
+    (c .before .judge-model .ensures (h .cs) (h .shown) ∙ sym (headed k ∙ through-judge (claims-model (h .leads) (f .before .before .if4 .left) g)))
 
 returns-6 : tie.Need-returns-6
 returns-6 c =
     let f = c .before .before .before in
     let k = M f in
     let h = claims k in
-    opens-following _ _ _ _ (ks (T k)) (xs (T k)) (ys (T k)) _ _ _ (h .cs) (c .following .ensures .0 ∙ ap (followingOf _ (ks (T k)) (xs (T k)) (ys (T k))) (c .before .begun .ensures)) (wide (T k)) (table (T k) .columns) (c .following .ensures .1) (h .few) (h .shown) (h .within)
-    (h .counted) (headed k ∙ h .proof (f .before .before .if4 .left) (c .before .before .if5 .left))
+    opens-following _ _ _ _ (ks (T k)) (xs (T k)) (ys (T k)) _ _ _ (h .cs)
+    (c .following .ensures .0 ∙ ap (followingOf _ (ks (T k)) (xs (T k)) (ys (T k))) (c .before .begun .ensures)) (table (T k) .columns) (c .following .ensures .1) (h .few) (h .shown)
+    (record { wide = wide (T k); short = short (T k); walk = table-then (table (T k)) (claims-proof (h .leads) (c .before .before .if5 .left)) (omega arith) })
 
 pub opened-spec : {M : Type 1} → statement M
 opened-spec =

@@ -1,19 +1,19 @@
--- `tables::read_table` meets its contract. The invariant: the lines read are stored, and the judge is where the walk is. The measure is
--- what is left of the text. Assumes nothing.
-use Prim.Native.Nat.{ℕ, suc, _-_, _<_}
-use mathlib.Core.Path.{_≡_, refl, sym, _∙_}
+-- `tables::read_table` meets its contract. The invariant: the lines read have passed, and are stored. The measure is what is left of the text.
+-- Assumes nothing.
+use Prim.Native.Nat.{ℕ, _-_, _<_}
+use mathlib.Core.Path.{_≡_, sym, _∙_}
 use native.Mathlib.Omega.{arith}
-use mathlib.Core.List.{List, []}
-use lib.ListN.{length, drop}
+use mathlib.Core.List.{List}
+use lib.ListN.{length}
 use denote.Ref.{now}
 use borrow.Author.Needs.{needs}
-use Rattle.reading.proofs.Loop.{Line-found, when-found, when-bad, when-end}
-use Rattle.lines.specs.Text.{linesOf}
+use Rattle.lines.specs.Text.{readAt}
+use Rattle.lines.specs.declared.Next.the-variants.{Found}
+use Rattle.reading.proofs.Loop.{when-found}
 use Rattle.alc.specs.Rows.{refusal}
-use Rattle.alc.specs.Verdict.{refused, begin, judge}
 use Rattle.alc.specs.Shown.{tableOf}
-use Rattle.heading.specs.Parts.{entryRows, inClaims, TableRead}
-use Rattle.tables.proofs.TableWalk.{Walk, walk-begin, walk-stored, stops-bad, stops-end, stops-here, stops-refused, room}
+use Rattle.heading.specs.Parts.{entryRows, wrong, other, over}
+use Rattle.tables.proofs.TableWalk.{Walk, walk-begin, walk-stored, stops, fails, room}
 use Rattle.tables.proofs.read_table.Statement.{statement}
 use Rattle.tables.proofs.read_table.Tie as tie
 
@@ -40,23 +40,14 @@ A c = c .before .before .before
 abbrev text : tie.At-loop Inv-loop μ-loop → List ℕ
 text a = now (a .before .before .args .text)
 
-found : (c : tie.After-l Inv-loop μ-loop) → Line-found (text (A c)) (A c .loop .at) 0 (c .l .given .0 .0) (c .l .given .0 .1 .0)
-found c = when-found (text (A c)) (A c .loop .at) 0 (c .l .given .0 .0) (c .l .given .0 .1 .0) (sym (c .before .before .read .ensures) ∙ c .l .given .1)
-
--- what the walk came to, where it stops
-stopped : (a : tie.At-loop Inv-loop μ-loop) (k : ℕ)
-    → ((k ≡ 0 → ⊥) → judge 0 begin (linesOf (text a)) ≡ refused k (suc (a .loop .n)))
-    → (k ≡ 0 → judge 0 begin (linesOf (text a)) ≡ judge (a .loop .n) (inClaims (tableOf (a .loop .kinds) (a .loop .firsts) (a .loop .seconds) (a .loop .n)) []) (linesOf (drop (a .loop .at) (text a))))
-    → TableRead (text a) (a .loop .kinds) (a .loop .firsts) (a .loop .seconds) (record { number = k; at = a .loop .at; count = a .loop .n })
-stopped a k f g =
-    let v = a .loop .inv in
-    record { refusal = f; left = g; columns = v .columns; within = v .within; counted = v .counted }
+found : (c : tie.After-l Inv-loop μ-loop) → readAt (text (A c)) (A c .loop .at) 0 ≡ Found (c .l .given .0 .0) (c .l .given .0 .1 .0)
+found c = sym (c .before .before .read .ensures) ∙ c .l .given .1
 
 returns : tie.Need-returns Inv-loop μ-loop
 returns c =
     let l = c .before .before .before in
     let a = A l in
-    stopped a 0 (λ h. absurd (h refl)) (λ h. stops-here _ _ _ _ _ _ (a .loop .inv) _ _ (found l) (c .if1 .taken))
+    stops _ _ _ _ _ _ (a .loop .inv) _ 0 (found l) (other (c .if1 .taken))
 
 entry-refusal-requires : tie.Need-entry-refusal-requires Inv-loop μ-loop
 entry-refusal-requires c κs =
@@ -70,8 +61,7 @@ returns-2 c =
     let e = r .before .before .before .before in
     let l = e .before .before .before in
     let a = A l in
-    stopped a (r .entry-refusal .result) (λ h. stops-refused _ _ _ _ _ _ (a .loop .inv) _ _ (found l) (r .entry-refusal .result) (e .if1 .left) (r .entry-refusal .ensures) h)
-    (λ h. absurd (c .if2 .taken h))
+    stops _ _ _ _ _ _ (a .loop .inv) _ _ (found l) (fails _ _ _ _ _ _ (a .loop .inv) _ _ (found l) _ (e .if1 .left) (r .entry-refusal .ensures) (c .if2 .taken))
 
 made-entry-requires : tie.Need-made-entry-requires Inv-loop μ-loop
 made-entry-requires c κs = search needs
@@ -106,7 +96,7 @@ add-n : tie.Need-add-n Inv-loop μ-loop
 add-n c = omega (arith, space (M c))
 
 loop-less : tie.Need-loop-less Inv-loop μ-loop
-loop-less c = let f = found (L (M c)) in omega (arith, f .later, f .within)
+loop-less c = let f = when-found _ _ _ _ _ (found (L (M c))) in omega (arith, f .later, f .within)
 
 loop-again : tie.Need-loop-again Inv-loop μ-loop
 loop-again c =
@@ -124,7 +114,7 @@ enum-told c = search needs
 returns-3 : tie.Need-returns-3 Inv-loop μ-loop
 returns-3 c =
     let a = c .before .before .before in
-    stopped a 2 (λ h. stops-bad _ _ _ _ _ _ (a .loop .inv) (when-bad _ _ _ (sym (c .before .before .read .ensures) ∙ c .enum-told .given .1))) (λ h. absurd (omega arith))
+    stops _ _ _ _ _ _ (a .loop .inv) _ 2 (sym (c .before .before .read .ensures) ∙ c .enum-told .given .1) wrong
 
 enum-told-2 : tie.Need-enum-told-2 Inv-loop μ-loop
 enum-told-2 c = search needs
@@ -132,7 +122,7 @@ enum-told-2 c = search needs
 returns-4 : tie.Need-returns-4 Inv-loop μ-loop
 returns-4 c =
     let a = c .before .before .before in
-    stopped a 0 (λ h. absurd (h refl)) (λ h. stops-end _ _ _ _ _ _ (a .loop .inv) (when-end _ _ _ (sym (c .before .before .read .ensures) ∙ c .enum-told2 .given .1)))
+    stops _ _ _ _ _ _ (a .loop .inv) _ 0 (sym (c .before .before .read .ensures) ∙ c .enum-told2 .given .1) over
 
 pub read-table-spec : {M : Type 1} → statement M
 read-table-spec =

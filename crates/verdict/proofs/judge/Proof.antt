@@ -110,7 +110,7 @@ module _ (w : World) (judge-steps : Knows (fun DC.judge-steps) w code.env) (blan
             ),
           ),
         ),
-        λ test γ. (refl, (λ _. tt, λ b. (refl, λ same. (λ _. tt, λ r. ((same-len room (b .2 .0) same, (refl, tt)), (ap answered (r .5) ∙ o .5 .there (sym (f .5) ∙ test), b .5)))))),
+        λ test γ. (refl, (λ _. tt, λ b. (refl, λ same. (λ _. tt, λ r. ((same-len room (b .2 .0) same, (refl, tt)), (ap answered (r .5) ∙ o .5 .decides (sym (f .5) ∙ test) .answer, b .5)))))),
       ),
     ),
   )
