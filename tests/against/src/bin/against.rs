@@ -38,18 +38,20 @@ mod proved {
         fn outside_judge(room: *mut Record, records: usize, text: *const u8, length: usize) -> u64;
     }
 
-    pub fn judge(room: &mut [Record], text: &[u8]) -> Verdict {
+    /// The verdict, or that the library's answer has no word.
+    pub fn judge(room: &mut [Record], text: &[u8]) -> Result<Verdict, &'static str> {
         // A slice is handed over as a pointer and a length.
         let packed =
             unsafe { outside_judge(room.as_mut_ptr(), room.len(), text.as_ptr(), text.len()) };
         let word = match packed & 0xff {
             0 => Word::Proved,
             1 => Word::Refuted,
-            _ => Word::Refused,
+            2 => Word::Refused,
+            _ => return Err("its word is none of the three"),
         };
         let number = (packed >> 8) as u8;
         let line = (packed >> 16) as usize;
-        Verdict { word, number, line }
+        Ok(Verdict { word, number, line })
     }
 }
 
@@ -65,7 +67,7 @@ fn judge_in(room: usize, dirt: u8, text: &[u8]) -> Result<Verdict, &'static str>
     if records[1..=room].iter().any(|&record| record != [0; 7]) {
         return Err("it left a record in the room");
     }
-    Ok(verdict)
+    verdict
 }
 
 /// Counts of what a run has met.
