@@ -207,7 +207,7 @@ fn provable_claims(random: &mut Random, signature: &Signature, table: &[Concept]
     goal
 }
 
-/// What the prover can do with a goal.
+/// A step that the prover can take.
 struct Choice {
     line: String,
     /// The premises: the dropped claim, and for each premise what is added.
@@ -261,8 +261,8 @@ fn weighted(random: &mut Random, choices: &mut Vec<Choice>) -> Option<Choice> {
     Some(choices.swap_remove(at))
 }
 
-/// A name that stands in no `is` or `link` of the goal, or 64 where there is none.
-pub fn new_name(random: &mut Random, goal: &[(Side, Claim)]) -> usize {
+/// A name that stands in no `is` or `link` of the goal, if there is one.
+fn new_name(random: &mut Random, goal: &[(Side, Claim)]) -> Option<usize> {
     let mut used = [false; 64];
     for &(_, claim) in goal {
         match claim {
@@ -279,7 +279,7 @@ pub fn new_name(random: &mut Random, goal: &[(Side, Claim)]) -> usize {
     } else {
         0
     };
-    (from..64).chain(0..from).find(|&b| !used[b]).unwrap_or(64)
+    (from..64).chain(0..from).find(|&b| !used[b])
 }
 
 const CLOSING: usize = 60;
@@ -287,166 +287,190 @@ const TURNING: usize = 8;
 const ADDING: usize = 4;
 const PARTING: usize = 1;
 
+/// What the prover can do with a goal, gathered claim by claim.
+struct Choices<'a> {
+    table: &'a [Concept],
+    goal: &'a [(Side, Claim)],
+    /// A name that is new in the goal, if there is one.
+    fresh: Option<usize>,
+    found: Vec<Choice>,
+}
+
 fn choices(random: &mut Random, table: &[Concept], goal: &[(Side, Claim)]) -> Vec<Choice> {
-    let has = |side: Side, claim: Claim| goal.contains(&(side, claim));
-    let b = new_name(random, goal);
-    let mut out = Vec::new();
-    let mut push = |weight, line: String, drop, premises| {
-        out.push(Choice {
+    let mut choices = Choices {
+        table,
+        goal,
+        fresh: new_name(random, goal),
+        found: Vec::new(),
+    };
+    for &(side, claim) in goal {
+        match (side, claim) {
+            (Left, Claim::Is(a, i)) => {
+                choices.is_left(a, i);
+                choices.included(a, i);
+            }
+            (Right, Claim::Is(a, i)) => choices.is_right(a, i),
+            (Right, Claim::Sub(i, j)) => choices.sub_right(i, j),
+            (Right, Claim::Link(r, a, b)) => choices.link_right(r, a, b),
+            (Left, Claim::Sub(..) | Claim::Link(..)) => {}
+        }
+    }
+    choices.needing_nothing(random);
+    choices.found
+}
+
+impl Choices<'_> {
+    fn has(&self, side: Side, claim: Claim) -> bool {
+        self.goal.contains(&(side, claim))
+    }
+
+    /// The names to which the name has a left link of the role, one for each such claim.
+    fn linked(&self, r: usize, a: usize) -> Vec<usize> {
+        let to = |&(side, claim): &(Side, Claim)| match claim {
+            Claim::Link(s, c, d) if side == Left && s == r && c == a => Some(d),
+            _ => None,
+        };
+        self.goal.iter().filter_map(to).collect()
+    }
+
+    /// A step that closes the goal.
+    fn close(&mut self, weight: usize, line: String) {
+        self.push(weight, line, None, vec![]);
+    }
+
+    /// A step that puts these claims in the place of one, or parts the goal where there are two lists of them.
+    fn turn(&mut self, line: String, drop: (Side, Claim), premises: Vec<Vec<(Side, Claim)>>) {
+        let weight = if premises.len() > 1 { PARTING } else { TURNING };
+        self.push(weight, line, Some(drop), premises);
+    }
+
+    /// A step that adds a claim, where it is not there yet.
+    fn add(&mut self, line: String, side: Side, claim: Claim) {
+        if !self.has(side, claim) {
+            self.push(ADDING, line, None, vec![vec![(side, claim)]]);
+        }
+    }
+
+    fn push(
+        &mut self,
+        weight: usize,
+        line: String,
+        drop: Option<(Side, Claim)>,
+        premises: Vec<Vec<(Side, Claim)>>,
+    ) {
+        self.found.push(Choice {
             line,
             drop,
             premises,
             weight,
         });
-    };
-    for &(side, claim) in goal {
-        let this = Some((side, claim));
-        match (side, claim) {
-            (Left, Claim::Is(a, i)) => {
-                match table[i] {
-                    Concept::Bot => push(CLOSING, format!("bot-l\t{a}\t{i}"), None, vec![]),
-                    Concept::Atom(_) if has(Right, claim) => {
-                        push(CLOSING, format!("id\t{a}\t{i}"), None, vec![]);
-                    }
-                    Concept::Top | Concept::Atom(_) => {}
-                    Concept::Not(p) => push(
-                        TURNING,
-                        format!("not-l\t{a}\t{i}"),
-                        this,
-                        vec![vec![(Right, Claim::Is(a, p))]],
-                    ),
-                    Concept::And(p, q) => push(
-                        TURNING,
-                        format!("and-l\t{a}\t{i}"),
-                        this,
-                        vec![vec![(Left, Claim::Is(a, p)), (Left, Claim::Is(a, q))]],
-                    ),
-                    Concept::Or(p, q) => push(
-                        PARTING,
-                        format!("or-l\t{a}\t{i}"),
-                        this,
-                        vec![vec![(Left, Claim::Is(a, p))], vec![(Left, Claim::Is(a, q))]],
-                    ),
-                    Concept::Some(r, p) if b < 64 => push(
-                        TURNING,
-                        format!("some-l\t{a}\t{i}\t{b}"),
-                        this,
-                        vec![vec![(Left, Claim::Link(r, a, b)), (Left, Claim::Is(b, p))]],
-                    ),
-                    Concept::Some(..) => {}
-                    Concept::All(r, p) => {
-                        for &(_, other) in goal.iter().filter(|&&(side, _)| side == Left) {
-                            if let Claim::Link(s, c, d) = other {
-                                if s == r && c == a && !has(Left, Claim::Is(d, p)) {
-                                    push(
-                                        ADDING,
-                                        format!("all-l\t{a}\t{i}\t{d}"),
-                                        None,
-                                        vec![vec![(Left, Claim::Is(d, p))]],
-                                    );
-                                }
-                            }
-                        }
-                    }
-                }
-                for &(_, other) in goal.iter().filter(|&&(side, _)| side == Left) {
-                    if let Claim::Sub(k, j) = other {
-                        if k == i && !has(Left, Claim::Is(a, j)) {
-                            push(
-                                ADDING,
-                                format!("sub-l\t{a}\t{i}\t{j}"),
-                                None,
-                                vec![vec![(Left, Claim::Is(a, j))]],
-                            );
-                        }
-                    }
+    }
+
+    /// What `is a i` on the left allows by its entry.
+    fn is_left(&mut self, a: usize, i: usize) {
+        let is = |i| Claim::Is(a, i);
+        let this = (Left, is(i));
+        match (self.table[i], self.fresh) {
+            (Concept::Bot, _) => self.close(CLOSING, format!("bot-l\t{a}\t{i}")),
+            (Concept::Atom(_), _) if self.has(Right, is(i)) => {
+                self.close(CLOSING, format!("id\t{a}\t{i}"));
+            }
+            (Concept::Not(p), _) => {
+                self.turn(format!("not-l\t{a}\t{i}"), this, vec![vec![(Right, is(p))]]);
+            }
+            (Concept::And(p, q), _) => {
+                let both = vec![(Left, is(p)), (Left, is(q))];
+                self.turn(format!("and-l\t{a}\t{i}"), this, vec![both]);
+            }
+            (Concept::Or(p, q), _) => {
+                let each = vec![vec![(Left, is(p))], vec![(Left, is(q))]];
+                self.turn(format!("or-l\t{a}\t{i}"), this, each);
+            }
+            (Concept::Some(r, p), Some(b)) => {
+                let both = vec![(Left, Claim::Link(r, a, b)), (Left, Claim::Is(b, p))];
+                self.turn(format!("some-l\t{a}\t{i}\t{b}"), this, vec![both]);
+            }
+            (Concept::All(r, p), _) => {
+                for b in self.linked(r, a) {
+                    self.add(format!("all-l\t{a}\t{i}\t{b}"), Left, Claim::Is(b, p));
                 }
             }
-            (Right, Claim::Is(a, i)) => match table[i] {
-                Concept::Top => push(CLOSING, format!("top-r\t{a}\t{i}"), None, vec![]),
-                Concept::Bot | Concept::Atom(_) => {}
-                Concept::Not(p) => push(
-                    TURNING,
-                    format!("not-r\t{a}\t{i}"),
-                    this,
-                    vec![vec![(Left, Claim::Is(a, p))]],
-                ),
-                Concept::And(p, q) => push(
-                    PARTING,
-                    format!("and-r\t{a}\t{i}"),
-                    this,
-                    vec![
-                        vec![(Right, Claim::Is(a, p))],
-                        vec![(Right, Claim::Is(a, q))],
-                    ],
-                ),
-                Concept::Or(p, q) => push(
-                    TURNING,
-                    format!("or-r\t{a}\t{i}"),
-                    this,
-                    vec![vec![(Right, Claim::Is(a, p)), (Right, Claim::Is(a, q))]],
-                ),
-                Concept::Some(r, p) => {
-                    for &(_, other) in goal.iter().filter(|&&(side, _)| side == Left) {
-                        if let Claim::Link(s, c, d) = other {
-                            if s == r && c == a && !has(Right, Claim::Is(d, p)) {
-                                push(
-                                    ADDING,
-                                    format!("some-r\t{a}\t{i}\t{d}"),
-                                    None,
-                                    vec![vec![(Right, Claim::Is(d, p))]],
-                                );
-                            }
-                        }
-                    }
-                }
-                Concept::All(r, p) if b < 64 => push(
-                    TURNING,
-                    format!("all-r\t{a}\t{i}\t{b}"),
-                    this,
-                    vec![vec![(Left, Claim::Link(r, a, b)), (Right, Claim::Is(b, p))]],
-                ),
-                Concept::All(..) => {}
-            },
-            (Right, Claim::Sub(i, j)) => {
-                if has(Left, claim) {
-                    push(TURNING, format!("id-sub\t{i}\t{j}"), None, vec![]);
-                }
-                if b < 64 {
-                    push(
-                        TURNING,
-                        format!("sub-r\t{i}\t{j}\t{b}"),
-                        this,
-                        vec![vec![(Left, Claim::Is(b, i)), (Right, Claim::Is(b, j))]],
-                    );
-                }
-            }
-            (Right, Claim::Link(r, a, c)) if has(Left, claim) => {
-                push(CLOSING, format!("id-link\t{r}\t{a}\t{c}"), None, vec![]);
-            }
-            _ => {}
+            (Concept::Top | Concept::Atom(_) | Concept::Some(..), _) => {}
         }
     }
-    // Two steps that need no claim, and seldom help.
-    for (i, concept) in table.iter().enumerate() {
-        let a = random.below(3);
-        match concept {
-            Concept::Top => push(
-                1,
-                format!("top-l\t{a}\t{i}"),
-                None,
-                vec![vec![(Left, Claim::Is(a, i))]],
-            ),
-            Concept::Bot => push(
-                1,
-                format!("bot-r\t{a}\t{i}"),
-                None,
-                vec![vec![(Right, Claim::Is(a, i))]],
-            ),
-            _ => {}
+
+    /// What `is a i` on the left allows by the inclusions beside it.
+    fn included(&mut self, a: usize, i: usize) {
+        for &(side, other) in self.goal {
+            match other {
+                Claim::Sub(k, j) if side == Left && k == i => {
+                    self.add(format!("sub-l\t{a}\t{i}\t{j}"), Left, Claim::Is(a, j));
+                }
+                _ => {}
+            }
         }
     }
-    out
+
+    /// What `is a i` on the right allows.
+    fn is_right(&mut self, a: usize, i: usize) {
+        let is = |i| Claim::Is(a, i);
+        let this = (Right, is(i));
+        match (self.table[i], self.fresh) {
+            (Concept::Top, _) => self.close(CLOSING, format!("top-r\t{a}\t{i}")),
+            (Concept::Not(p), _) => {
+                self.turn(format!("not-r\t{a}\t{i}"), this, vec![vec![(Left, is(p))]]);
+            }
+            (Concept::And(p, q), _) => {
+                let each = vec![vec![(Right, is(p))], vec![(Right, is(q))]];
+                self.turn(format!("and-r\t{a}\t{i}"), this, each);
+            }
+            (Concept::Or(p, q), _) => {
+                let both = vec![(Right, is(p)), (Right, is(q))];
+                self.turn(format!("or-r\t{a}\t{i}"), this, vec![both]);
+            }
+            (Concept::Some(r, p), _) => {
+                for b in self.linked(r, a) {
+                    self.add(format!("some-r\t{a}\t{i}\t{b}"), Right, Claim::Is(b, p));
+                }
+            }
+            (Concept::All(r, p), Some(b)) => {
+                let both = vec![(Left, Claim::Link(r, a, b)), (Right, Claim::Is(b, p))];
+                self.turn(format!("all-r\t{a}\t{i}\t{b}"), this, vec![both]);
+            }
+            (Concept::Bot | Concept::Atom(_) | Concept::All(..), _) => {}
+        }
+    }
+
+    fn sub_right(&mut self, i: usize, j: usize) {
+        let this = Claim::Sub(i, j);
+        if self.has(Left, this) {
+            self.close(TURNING, format!("id-sub\t{i}\t{j}"));
+        }
+        if let Some(b) = self.fresh {
+            let both = vec![(Left, Claim::Is(b, i)), (Right, Claim::Is(b, j))];
+            self.turn(format!("sub-r\t{i}\t{j}\t{b}"), (Right, this), vec![both]);
+        }
+    }
+
+    fn link_right(&mut self, r: usize, a: usize, b: usize) {
+        if self.has(Left, Claim::Link(r, a, b)) {
+            self.close(CLOSING, format!("id-link\t{r}\t{a}\t{b}"));
+        }
+    }
+
+    /// Two steps that need no claim, and seldom help.
+    fn needing_nothing(&mut self, random: &mut Random) {
+        for (i, concept) in self.table.iter().enumerate() {
+            let a = random.below(3);
+            let (word, side) = match concept {
+                Concept::Top => ("top-l", Left),
+                Concept::Bot => ("bot-r", Right),
+                _ => continue,
+            };
+            let added = vec![(side, Claim::Is(a, i))];
+            self.push(1, format!("{word}\t{a}\t{i}"), None, vec![added]);
+        }
+    }
 }
 
 // Models.
