@@ -5,3 +5,4 @@ pub mod judge;
 pub mod limits;
 pub mod make;
 pub mod random;
+pub mod rules;
