@@ -155,10 +155,10 @@ impl Table {
 
     /// A line for a claim: most often one of those that are used, or else any.
     fn line(&self, random: &mut Random) -> usize {
-        if random.percent(85) {
-            random.pick(&self.used)
-        } else {
-            random.below(self.lines.len())
+        match random.below(20) {
+            0..=2 => random.below(self.lines.len()),
+            3..=9 => self.deep_line(random),
+            _ => random.pick(&self.used),
         }
     }
 

@@ -17,44 +17,28 @@ pub fn dossier(random: &mut Random) -> Vec<u8> {
     ended(random, &lines, last)
 }
 
-/// The lines and the last one, which is not well formed now and then. A line behind it changes nothing.
+/// The lines and the last one, which now and then is not well formed or has no newline. A line behind it changes nothing.
 fn ended(random: &mut Random, lines: &Lines, last: String) -> Vec<u8> {
-    let mut text = text(lines);
-    let ends = match random.below(16) {
-        0 | 1 => {
-            text.extend_from_slice(last.as_bytes());
-            false
-        }
-        2 => {
-            text.extend_from_slice(format!("{last}\t0").as_bytes());
-            true
-        }
-        3 => {
-            let shorter = last.rsplit_once('\t').map_or("", |(shorter, _)| shorter);
-            text.extend_from_slice(shorter.as_bytes());
-            true
-        }
-        4 => {
-            let number = random.pick(&["65536", "00", "x"]);
-            let rest = last.rsplit_once('\t').map_or("", |(rest, _)| rest);
-            text.extend_from_slice(format!("{rest}\t{number}").as_bytes());
-            true
-        }
-        _ => {
-            text.extend_from_slice(last.as_bytes());
-            true
-        }
+    let stem = last.rsplit_once('\t').map_or("", |(stem, _)| stem);
+    let last = match random.below(16) {
+        0 => format!("{last}\t0"),
+        1 => stem.to_string(),
+        2 => format!("{stem}\t{}", random.pick(&["65536", "00", "x"])),
+        _ => last,
     };
-    if ends {
-        text.push(b'\n');
-        if random.percent(20) {
-            text.extend_from_slice(random.pick(&[&b"id\t0\t0\n"[..], b"top\n", b"\n", b"x"]));
-        }
+    let mut text = text(lines);
+    text.extend_from_slice(last.as_bytes());
+    if random.percent(12) {
+        return text;
+    }
+    text.push(b'\n');
+    if random.percent(20) {
+        text.extend_from_slice(random.pick(&[&b"id\t0\t0\n"[..], b"top\n", b"\n", b"x"]));
     }
     text
 }
 
-/// A number out of range that is a good one when it is cut to a byte, or to six bits, or that is just past the limit.
+/// A number out of range: just past it, or one that would be good if it were cut to a byte, or the largest there is.
 fn past(random: &mut Random, good: usize, limit: usize) -> usize {
     match random.below(5) {
         0 | 1 => limit,

@@ -51,14 +51,6 @@ impl Rule {
         }
     }
 
-    /// A rule that is only for entries like this one.
-    fn if_like(self, sample: Concept, entry: Concept) -> Rule {
-        Rule {
-            right_kind: discriminant(&sample) == discriminant(&entry),
-            ..self
-        }
-    }
-
     /// The premises of a goal that has what the rule needs.
     pub fn applied(self, mut goal: Goal) -> Vec<Goal> {
         let dropped = self.drop.and_then(|it| goal.iter().position(|&c| c == it));
@@ -106,58 +98,45 @@ fn rule_of_entry(entry: Option<Concept>, word: &str, [a, i, b]: [usize; 3]) -> R
     // For `some` and `all`, whose second part is the role.
     let link = (Left, Claim::Link(q, a, b));
     let is = Claim::Is;
-    let (rule, sample) = match word {
-        "id" => (both_sides(Claim::Is(a, i)), Concept::Atom(0)),
-        "bot-l" => (Rule::closing(vec![left]), Concept::Bot),
-        "top-r" => (Rule::closing(vec![right]), Concept::Top),
-        "top-l" => (Rule::adding(vec![], left), Concept::Top),
-        "bot-r" => (Rule::adding(vec![], right), Concept::Bot),
-        "not-l" => (
-            Rule::turning(left, vec![vec![(Right, is(a, p))]]),
-            Concept::Not(0),
+    let rule = match word {
+        "id" => both_sides(is(a, i)),
+        "bot-l" => Rule::closing(vec![left]),
+        "top-r" => Rule::closing(vec![right]),
+        "top-l" => Rule::adding(vec![], left),
+        "bot-r" => Rule::adding(vec![], right),
+        "not-l" => Rule::turning(left, vec![vec![(Right, is(a, p))]]),
+        "not-r" => Rule::turning(right, vec![vec![(Left, is(a, p))]]),
+        "and-l" => Rule::turning(left, vec![vec![(Left, is(a, p)), (Left, is(a, q))]]),
+        "and-r" => Rule::turning(
+            right,
+            vec![vec![(Right, is(a, p))], vec![(Right, is(a, q))]],
         ),
-        "not-r" => (
-            Rule::turning(right, vec![vec![(Left, is(a, p))]]),
-            Concept::Not(0),
-        ),
-        "and-l" => (
-            Rule::turning(left, vec![vec![(Left, is(a, p)), (Left, is(a, q))]]),
-            Concept::And(0, 0),
-        ),
-        "and-r" => (
-            Rule::turning(
-                right,
-                vec![vec![(Right, is(a, p))], vec![(Right, is(a, q))]],
-            ),
-            Concept::And(0, 0),
-        ),
-        "or-l" => (
-            Rule::turning(left, vec![vec![(Left, is(a, p))], vec![(Left, is(a, q))]]),
-            Concept::Or(0, 0),
-        ),
-        "or-r" => (
-            Rule::turning(right, vec![vec![(Right, is(a, p)), (Right, is(a, q))]]),
-            Concept::Or(0, 0),
-        ),
-        "some-l" => (
-            Rule::naming(b, left, vec![link, (Left, is(b, p))]),
-            Concept::Some(0, 0),
-        ),
-        "some-r" => (
-            Rule::adding(vec![right, link], (Right, is(b, p))),
-            Concept::Some(0, 0),
-        ),
-        "all-l" => (
-            Rule::adding(vec![left, link], (Left, is(b, p))),
-            Concept::All(0, 0),
-        ),
-        "all-r" => (
-            Rule::naming(b, right, vec![link, (Right, is(b, p))]),
-            Concept::All(0, 0),
-        ),
-        _ => unreachable!("no step word: {word}"),
+        "or-l" => Rule::turning(left, vec![vec![(Left, is(a, p))], vec![(Left, is(a, q))]]),
+        "or-r" => Rule::turning(right, vec![vec![(Right, is(a, p)), (Right, is(a, q))]]),
+        "some-l" => Rule::naming(b, left, vec![link, (Left, is(b, p))]),
+        "some-r" => Rule::adding(vec![right, link], (Right, is(b, p))),
+        "all-l" => Rule::adding(vec![left, link], (Left, is(b, p))),
+        // `all-r`; no other word is left.
+        _ => Rule::naming(b, right, vec![link, (Right, is(b, p))]),
     };
-    rule.if_like(sample, entry)
+    Rule {
+        right_kind: discriminant(&entry) == discriminant(&asked(word)),
+        ..rule
+    }
+}
+
+/// Some entry of the kind that a step asks for.
+fn asked(word: &str) -> Concept {
+    match word {
+        "id" => Concept::Atom(0),
+        "top-l" | "top-r" => Concept::Top,
+        "bot-l" | "bot-r" => Concept::Bot,
+        "not-l" | "not-r" => Concept::Not(0),
+        "and-l" | "and-r" => Concept::And(0, 0),
+        "or-l" | "or-r" => Concept::Or(0, 0),
+        "some-l" | "some-r" => Concept::Some(0, 0),
+        _ => Concept::All(0, 0),
+    }
 }
 
 /// Whether a name stands in no `is` or `link` of the goal.
