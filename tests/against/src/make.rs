@@ -124,11 +124,15 @@ impl Signature {
     }
 }
 
-/// So many different numbers below a limit, the last of all among them.
+/// So many different numbers below a limit: the last of all, and those before it or any.
 fn far_numbers(random: &mut Random, count: usize, limit: usize) -> Vec<usize> {
     let mut numbers = vec![limit - 1];
     while numbers.len() < count {
-        let number = random.below(limit);
+        let number = if random.percent(50) {
+            limit - 1 - numbers.len()
+        } else {
+            random.below(limit)
+        };
         if !numbers.contains(&number) {
             numbers.push(number);
         }
@@ -573,18 +577,23 @@ impl World {
             edges: [[0; 32]; 16],
         };
         let dense = random.pick(&[10, 30, 60]);
-        // A large world has few edges, so that dossiers stay short.
-        let dense_edges = if size > 4 { 2 } else { dense };
         for &x in &signature.atoms {
-            world.atoms[x] = world.set(random, dense);
+            world.atoms[x] = world.set(random, |_| dense);
         }
+        let last = size - 1;
         for &r in &signature.roles {
             for d in 0..size {
-                world.edges[r][d] = world.set(random, dense_edges);
+                world.edges[r][d] = world.set(random, |e| match size {
+                    0..=4 => dense,
+                    // A large world has few edges, so that dossiers stay short, but for its last element.
+                    _ if d == last || e == last => 30,
+                    _ => 2,
+                });
             }
         }
         for &a in &signature.names {
-            world.places[a] = Some(random.below(size));
+            let any = random.below(size);
+            world.places[a] = Some(if random.percent(30) { last } else { any });
         }
         world
     }
@@ -596,9 +605,9 @@ impl World {
             .fold(0, |set, d| set | 1 << d)
     }
 
-    /// Each element so many times in a hundred.
-    fn set(&self, random: &mut Random, percent: usize) -> Set {
-        (0..self.size).fold(0, |set, d| set | Set::from(random.percent(percent)) << d)
+    /// A set that has each element so many times in a hundred.
+    fn set(&self, random: &mut Random, percent: impl Fn(usize) -> usize) -> Set {
+        (0..self.size).fold(0, |set, e| set | Set::from(random.percent(percent(e))) << e)
     }
 
     /// For each table line, which elements it holds of.
