@@ -93,7 +93,8 @@ pub fn damaged(random: &mut Random, lines: &Lines) -> Vec<u8> {
     text
 }
 
-/// The line to be damaged: any, or one of the last few, so that what stands before it is read and judged.
+/// The line to be damaged: any, or one of the last few, so that what stands before it is read and judged. A long table is mostly left alone, so that
+/// what is made of it is damaged.
 fn some_line(random: &mut Random, lines: &Lines) -> Option<usize> {
     if lines.is_empty() {
         return None;
@@ -101,7 +102,18 @@ fn some_line(random: &mut Random, lines: &Lines) -> Option<usize> {
     if random.percent(30) {
         return Some(lines.len() - 1 - random.below(lines.len().min(5)));
     }
+    let table = lines.iter().take_while(|line| !ends_table(line)).count();
+    if table > 20 && table < lines.len() && random.percent(80) {
+        return Some(random.within(table, lines.len() - 1));
+    }
     Some(random.below(lines.len()))
+}
+
+fn ends_table(line: &str) -> bool {
+    matches!(
+        line.split('\t').next(),
+        Some("left" | "right" | "proof" | "model")
+    )
 }
 
 fn split(line: &str) -> Vec<String> {

@@ -157,7 +157,8 @@ impl Goal {
         !self.claims().iter().any(|c| c.names(b))
     }
 
-    /// Takes out the first copy of a claim that is there.
+    /// Takes out the first copy of a claim that is there. (Not inlined, since its search costs more instructions then.)
+    #[inline(never)]
     fn drop_first(&mut self, claim: Claim) {
         if let Some(at) = self.claims().iter().position(|&c| c == claim) {
             self.claims.copy_within(at + 1..self.count, at);
@@ -169,6 +170,66 @@ impl Goal {
     fn add(&mut self, claim: Claim) {
         self.claims[self.count] = claim;
         self.count += 1;
+    }
+
+    /// Becomes its one premise: the dropped claim goes, the added ones come.
+    fn change(&mut self, dropped: Option<Claim>, added: [Option<Claim>; 2]) -> Result<(), Refusal> {
+        let more = added.iter().flatten().count();
+        if self.count - usize::from(dropped.is_some()) + more > CLAIMS {
+            return Err(10);
+        }
+        if let Some(claim) = dropped {
+            self.drop_first(claim);
+        }
+        for claim in added.into_iter().flatten() {
+            self.add(claim);
+        }
+        Ok(())
+    }
+}
+
+/// The open goals: the last of them is the current one, below it lie those that wait.
+struct Goals {
+    goals: [Goal; WAITING + 1],
+    open: usize,
+}
+
+impl Goals {
+    const NONE: Goals = Goals {
+        goals: [Goal::EMPTY; WAITING + 1],
+        open: 0,
+    };
+
+    /// The current goal; where none is open, the one that was closed last.
+    fn current(&mut self) -> &mut Goal {
+        &mut self.goals[self.open.saturating_sub(1)]
+    }
+
+    /// What a step does with the current goal, once every claim that it needs is there.
+    fn go_on(&mut self, step: Move) -> Result<(), Refusal> {
+        match step {
+            Move::Close => {
+                self.open -= 1;
+                Ok(())
+            }
+            Move::One(dropped, added) => self.current().change(dropped, added),
+            Move::Two(dropped, first, second) => self.part(dropped, first, second),
+        }
+    }
+
+    /// The premise with `first` becomes current, the one with `second` waits. One claim goes and one comes, so each has as many as the goal.
+    fn part(&mut self, dropped: Claim, first: Claim, second: Claim) -> Result<(), Refusal> {
+        if self.open == WAITING + 1 {
+            return Err(11);
+        }
+        let goal = self.current();
+        goal.drop_first(dropped);
+        let mut current = *goal;
+        current.add(first);
+        goal.add(second);
+        self.goals[self.open] = current;
+        self.open += 1;
+        Ok(())
     }
 }
 
@@ -194,6 +255,75 @@ enum Step {
     SomeR,
     AllL,
     AllR,
+}
+
+impl Step {
+    fn of(word: &[u8]) -> Option<Step> {
+        Some(match word {
+            b"id" => Step::Id,
+            b"id-sub" => Step::IdSub,
+            b"id-link" => Step::IdLink,
+            b"bot-l" => Step::BotL,
+            b"top-r" => Step::TopR,
+            b"top-l" => Step::TopL,
+            b"bot-r" => Step::BotR,
+            b"not-l" => Step::NotL,
+            b"not-r" => Step::NotR,
+            b"and-l" => Step::AndL,
+            b"and-r" => Step::AndR,
+            b"or-l" => Step::OrL,
+            b"or-r" => Step::OrR,
+            b"sub-l" => Step::SubL,
+            b"sub-r" => Step::SubR,
+            b"some-l" => Step::SomeL,
+            b"some-r" => Step::SomeR,
+            b"all-l" => Step::AllL,
+            b"all-r" => Step::AllR,
+            _ => return None,
+        })
+    }
+
+    /// Whether three numbers stand behind the word, and not two.
+    fn takes_three(self) -> bool {
+        matches!(
+            self,
+            Step::IdLink
+                | Step::SubL
+                | Step::SubR
+                | Step::SomeL
+                | Step::SomeR
+                | Step::AllL
+                | Step::AllR
+        )
+    }
+
+    fn in_range(self, [x, y, z]: [u16; 3], concepts: u16) -> bool {
+        match self {
+            Step::IdSub => x < concepts && y < concepts,
+            Step::IdLink => x < ROLES && y < NAMES && z < NAMES,
+            Step::SubL => x < NAMES && y < concepts && z < concepts,
+            Step::SubR => x < concepts && y < concepts && z < NAMES,
+            Step::SomeL | Step::SomeR | Step::AllL | Step::AllR => {
+                x < NAMES && y < concepts && z < NAMES
+            }
+            _ => x < NAMES && y < concepts,
+        }
+    }
+
+    /// What entry i, the second number, must be.
+    fn kind(self) -> Option<Kind> {
+        match self {
+            Step::Id => Some(Kind::Atom),
+            Step::BotL | Step::BotR => Some(Kind::Bot),
+            Step::TopL | Step::TopR => Some(Kind::Top),
+            Step::NotL | Step::NotR => Some(Kind::Not),
+            Step::AndL | Step::AndR => Some(Kind::And),
+            Step::OrL | Step::OrR => Some(Kind::Or),
+            Step::SomeL | Step::SomeR => Some(Kind::Some),
+            Step::AllL | Step::AllR => Some(Kind::All),
+            Step::IdSub | Step::IdLink | Step::SubL | Step::SubR => None,
+        }
+    }
 }
 
 /// What a step does with the current goal, once every claim it needs is there.
@@ -410,152 +540,71 @@ impl<'a> Dossier<'a> {
     // The derivation.
 
     fn steps(&mut self) -> Result<Word, (Refusal, usize)> {
-        // The last of the open goals is the current one; below it lie those that wait.
-        let mut goals = [Goal::EMPTY; WAITING + 1];
-        let mut open = 1;
-        for &(side, claim) in &self.claims[..self.count] {
-            goals[0].add(match claim {
-                ClaimAt::Is(a, i) => Claim::is(side, a, i),
-                ClaimAt::Sub(i, j) => Claim::sub(side, i, j),
-                ClaimAt::Link(r, a, b) => Claim::link(side, r, a, b),
-            });
-        }
+        let mut goals = Goals::NONE;
+        self.open_first(&mut goals);
         let mut steps = 0;
         while !self.ended() {
-            if let Err(number) = self.step(steps, &mut goals, &mut open) {
+            if let Err(number) = self.step(steps, &mut goals) {
                 return Err((number, self.lines + 1));
             }
             steps += 1;
             self.lines += 1;
         }
-        if open > 0 {
+        if goals.open > 0 {
             return Err((12, self.lines + 1));
         }
         Ok(Word::Proved)
     }
 
-    /// One step, where so many have been made.
-    fn step(
-        &mut self,
-        steps: usize,
-        goals: &mut [Goal; WAITING + 1],
-        open: &mut usize,
-    ) -> Result<(), Refusal> {
-        // Row 2.
-        let step = match self.word() {
-            b"id" => Step::Id,
-            b"id-sub" => Step::IdSub,
-            b"id-link" => Step::IdLink,
-            b"bot-l" => Step::BotL,
-            b"top-r" => Step::TopR,
-            b"top-l" => Step::TopL,
-            b"bot-r" => Step::BotR,
-            b"not-l" => Step::NotL,
-            b"not-r" => Step::NotR,
-            b"and-l" => Step::AndL,
-            b"and-r" => Step::AndR,
-            b"or-l" => Step::OrL,
-            b"or-r" => Step::OrR,
-            b"sub-l" => Step::SubL,
-            b"sub-r" => Step::SubR,
-            b"some-l" => Step::SomeL,
-            b"some-r" => Step::SomeR,
-            b"all-l" => Step::AllL,
-            b"all-r" => Step::AllR,
-            _ => return Err(2),
-        };
-        let numbers = match step {
-            Step::IdLink
-            | Step::SubL
-            | Step::SubR
-            | Step::SomeL
-            | Step::SomeR
-            | Step::AllL
-            | Step::AllR => self.numbers::<3>()?,
-            _ => self.numbers::<2>().map(|[x, y]| [x, y, 0])?,
-        };
-        // Row 5.
+    /// At the start the claims of the file are the only goal.
+    fn open_first(&self, goals: &mut Goals) {
+        goals.open = 1;
+        for &(side, claim) in &self.claims[..self.count] {
+            goals.current().add(match claim {
+                ClaimAt::Is(a, i) => Claim::is(side, a, i),
+                ClaimAt::Sub(i, j) => Claim::sub(side, i, j),
+                ClaimAt::Link(r, a, b) => Claim::link(side, r, a, b),
+            });
+        }
+    }
+
+    /// One step, where so many have been made: the rows in their order, and then what it does, which rows 10 and 11 can refuse.
+    fn step(&mut self, steps: usize, goals: &mut Goals) -> Result<(), Refusal> {
+        let (step, numbers) = self.step_line()?;
         if steps == STEPS {
             return Err(5);
         }
-        // Row 9.
-        if *open == 0 {
+        if goals.open == 0 {
             return Err(9);
         }
-        let goal = &mut goals[*open - 1];
-        // Row 3. Every number that is in its range fits a byte.
-        let concepts = self.concepts as u16;
-        let [x, y, z] = numbers;
-        let good = match step {
-            Step::IdSub => x < concepts && y < concepts,
-            Step::IdLink => x < ROLES && y < NAMES && z < NAMES,
-            Step::SubL => x < NAMES && y < concepts && z < concepts,
-            Step::SubR => x < concepts && y < concepts && z < NAMES,
-            Step::SomeL | Step::SomeR | Step::AllL | Step::AllR => {
-                x < NAMES && y < concepts && z < NAMES
-            }
-            _ => x < NAMES && y < concepts,
-        };
-        if !good {
+        if !step.in_range(numbers, self.concepts as u16) {
             return Err(3);
         }
-        let [x, y, z] = [x as u8, y as u8, z as u8];
-        // Row 6.
-        let kind = match step {
-            Step::Id => Some(Kind::Atom),
-            Step::BotL | Step::BotR => Some(Kind::Bot),
-            Step::TopL | Step::TopR => Some(Kind::Top),
-            Step::NotL | Step::NotR => Some(Kind::Not),
-            Step::AndL | Step::AndR => Some(Kind::And),
-            Step::OrL | Step::OrR => Some(Kind::Or),
-            Step::SomeL | Step::SomeR => Some(Kind::Some),
-            Step::AllL | Step::AllR => Some(Kind::All),
-            Step::IdSub | Step::IdLink | Step::SubL | Step::SubR => None,
-        };
-        if let Some(kind) = kind {
-            if self.entry(y).kind != kind {
-                return Err(6);
-            }
+        // Every number that is in its range fits a byte.
+        let [x, y, z] = numbers.map(|n| n as u8);
+        if step.kind().is_some_and(|kind| self.entry(y).kind != kind) {
+            return Err(6);
         }
-        // Rows 7 and 8.
+        let goal = goals.current();
         let (needs, fresh) = self.needs(step, x, y, z);
         if !needs.iter().flatten().all(|&claim| goal.has(claim)) {
             return Err(7);
         }
-        if let Some(b) = fresh {
-            if !goal.is_new(b) {
-                return Err(8);
-            }
+        if fresh.is_some_and(|b| !goal.is_new(b)) {
+            return Err(8);
         }
-        // Rows 10 and 11, and what the step does.
-        match self.does(step, x, y, z) {
-            Move::Close => *open -= 1,
-            Move::One(dropped, added) => {
-                let more = added.iter().flatten().count();
-                if goal.count - usize::from(dropped.is_some()) + more > CLAIMS {
-                    return Err(10);
-                }
-                if let Some(claim) = dropped {
-                    goal.drop_first(claim);
-                }
-                for claim in added.into_iter().flatten() {
-                    goal.add(claim);
-                }
-            }
-            Move::Two(dropped, first, second) => {
-                // One claim goes and one comes, so a premise has as many as the goal.
-                if *open == WAITING + 1 {
-                    return Err(11);
-                }
-                goal.drop_first(dropped);
-                let mut current = *goal;
-                current.add(first);
-                goal.add(second);
-                goals[*open] = current;
-                *open += 1;
-            }
-        }
-        Ok(())
+        goals.go_on(self.does(step, x, y, z))
+    }
+
+    /// The word and the numbers of a step, of which the third is 0 where it has two.
+    fn step_line(&mut self) -> Result<(Step, [u16; 3]), Refusal> {
+        let step = Step::of(self.word()).ok_or(2)?;
+        let numbers = if step.takes_three() {
+            self.numbers::<3>()?
+        } else {
+            self.numbers::<2>().map(|[x, y]| [x, y, 0])?
+        };
+        Ok((step, numbers))
     }
 
     /// The claims that a step needs in the current goal, and the name that must be new there.

@@ -4,4 +4,7 @@ pub mod damage;
 pub mod judge;
 pub mod limits;
 pub mod make;
+pub mod pairs;
 pub mod random;
+pub mod rows;
+pub mod rules;

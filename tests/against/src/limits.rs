@@ -11,14 +11,14 @@ pub fn dossier(random: &mut Random) -> Vec<u8> {
         28..=35 => text(&steps(random)),
         36..=60 => text(&full_goal(random)),
         61..=80 => text(&waiting(random)),
-        81..=97 => text(&ranges(random)),
-        98 => length(random),
+        81..=96 => text(&ranges(random)),
+        97 => length(random),
         _ => too_long(random),
     }
 }
 
 /// So many different table lines.
-fn wide_table(random: &mut Random, lines: usize) -> Vec<Concept> {
+pub fn wide_table(random: &mut Random, lines: usize) -> Vec<Concept> {
     let mut table = Vec::new();
     if random.percent(50) {
         table.extend([Concept::Top, Concept::Bot]);
@@ -129,7 +129,7 @@ pub fn long(steps: usize, more: &[(Side, Claim)]) -> Lines {
     for a in 1..=5 {
         let mut i = 254;
         while i > 0 && left > 0 {
-            lines.push(turn(a, i));
+            lines.push(turn(side_of(i), a, i));
             i -= 1;
             left -= 1;
         }
@@ -138,10 +138,21 @@ pub fn long(steps: usize, more: &[(Side, Claim)]) -> Lines {
     lines
 }
 
-/// The step that takes apart entry i of a chain that began on the left with entry 254: each turn brings it to the other side.
-fn turn(a: usize, i: usize) -> String {
-    let side = if i % 2 == 1 { "r" } else { "l" };
-    format!("not-{side}\t{a}\t{i}")
+/// Where entry i stands of a chain that began on the left with entry 254: each turn brings it to the other side.
+fn side_of(i: usize) -> Side {
+    if i % 2 == 1 {
+        Right
+    } else {
+        Left
+    }
+}
+
+/// The step that takes apart a `not` on this side.
+pub fn turn(side: Side, a: usize, i: usize) -> String {
+    match side {
+        Left => format!("not-l\t{a}\t{i}"),
+        Right => format!("not-r\t{a}\t{i}"),
+    }
 }
 
 fn steps(random: &mut Random) -> Lines {
@@ -151,7 +162,8 @@ fn steps(random: &mut Random) -> Lines {
         // The goal stays open: the last step is one more turn, of the fifth chain.
         lines.pop();
         let turned = count.min(1_024) - 1;
-        lines.push(turn(5, 254 - (turned - 4 * 254)));
+        let i = 254 - (turned - 4 * 254);
+        lines.push(turn(side_of(i), 5, i));
     }
     if count == 1_025 {
         let bad = random.pick(&[

@@ -3,13 +3,14 @@
 //!     against [SEED]
 //!
 //! Half of the dossiers are the same in every run; the other half follow from a seed that is printed, and can be given as the argument or in
-//! AGAINST_SEED. A difference is written to a file and fails the run, and so does a verdict or a step word that the run met too seldom to say
-//! anything of.
+//! AGAINST_SEED. A difference is written to a file and fails the run, and so does a verdict, a step word or a pair of rows that refuse the same line
+//! that the run met too seldom to say anything of.
 
-use against::judge::{judge, Verdict, Word, ROOM};
+use against::judge::{judge, Verdict, Word, ROOM, TEXT};
 use against::make::STEP_WORDS;
 use against::random::Random;
-use against::{damage, limits, make};
+use against::rows::refusing;
+use against::{damage, limits, make, pairs};
 use std::path::Path;
 use std::process::ExitCode;
 
@@ -19,6 +20,22 @@ const EACH: u64 = 100_000;
 const FIXED: u64 = 1;
 /// How often each verdict, and each step word in a derivation that is proved, must be met.
 const ENOUGH: u64 = 200;
+/// For each row those that stand behind it and can refuse the same line, so that the order of the two shows; there are no others. Of rows 3 and 4
+/// only `name` can fail both. A step that fails row 8 or 10 has one premise, so it can't fail row 11; and where no goal is open none waits.
+const BEHIND: [(u8, &[u8]); 10] = [
+    (14, &[1, 2]),
+    (1, &[2]),
+    (2, &[5, 9, 3, 4, 6, 7, 8, 10, 11]),
+    (5, &[9, 3, 4, 6, 7, 8, 10, 11]),
+    (9, &[3, 6, 7, 8, 10]),
+    (3, &[4, 6, 7, 8, 10, 11]),
+    (6, &[7, 8, 10, 11]),
+    (7, &[8, 10, 11]),
+    (8, &[10]),
+    (12, &[13]),
+];
+/// How often each such pair of rows must be met.
+const ENOUGH_PAIRS: u64 = 50;
 /// Where the dossiers lie on which the judges differ.
 const FOLDER: &str = "target/against";
 /// How many differences are written down.
@@ -38,18 +55,20 @@ mod proved {
         fn outside_judge(room: *mut Record, records: usize, text: *const u8, length: usize) -> u64;
     }
 
-    pub fn judge(room: &mut [Record], text: &[u8]) -> Verdict {
+    /// The verdict, or that the library's answer has no word.
+    pub fn judge(room: &mut [Record], text: &[u8]) -> Result<Verdict, &'static str> {
         // A slice is handed over as a pointer and a length.
         let packed =
             unsafe { outside_judge(room.as_mut_ptr(), room.len(), text.as_ptr(), text.len()) };
         let word = match packed & 0xff {
             0 => Word::Proved,
             1 => Word::Refuted,
-            _ => Word::Refused,
+            2 => Word::Refused,
+            _ => return Err("its word is none of the three"),
         };
         let number = (packed >> 8) as u8;
         let line = (packed >> 16) as usize;
-        Verdict { word, number, line }
+        Ok(Verdict { word, number, line })
     }
 }
 
@@ -65,10 +84,10 @@ fn judge_in(room: usize, dirt: u8, text: &[u8]) -> Result<Verdict, &'static str>
     if records[1..=room].iter().any(|&record| record != [0; 7]) {
         return Err("it left a record in the room");
     }
-    Ok(verdict)
+    verdict
 }
 
-/// Counts of what a run has met.
+/// Counts of what a run has met, where the judges agree.
 #[derive(Clone, Default)]
 struct Counts {
     proved: u64,
@@ -77,6 +96,8 @@ struct Counts {
     refused: [u64; 15],
     /// Derivations that are proved, by step word.
     steps: [u64; STEP_WORDS.len()],
+    /// Refused dossiers, by number and by each other row that refuses the same line.
+    pairs: [[u64; 15]; 15],
     differences: u64,
 }
 
@@ -91,9 +112,13 @@ impl Counts {
         for (sum, n) in self.steps.iter_mut().zip(other.steps) {
             *sum += n;
         }
+        let pairs = self.pairs.as_flattened_mut();
+        for (sum, n) in pairs.iter_mut().zip(other.pairs.as_flattened()) {
+            *sum += n;
+        }
     }
 
-    fn meet(&mut self, verdict: Verdict, text: &[u8]) {
+    fn meet(&mut self, verdict: Verdict, room: usize, text: &[u8]) {
         match verdict.word {
             Word::Proved => {
                 self.proved += 1;
@@ -104,32 +129,79 @@ impl Counts {
                 }
             }
             Word::Refuted => self.refuted += 1,
-            Word::Refused => self.refused[usize::from(verdict.number)] += 1,
+            Word::Refused => {
+                let number = usize::from(verdict.number);
+                self.refused[number] += 1;
+                let rows = refusing(room, text, verdict);
+                for row in 1..15 {
+                    self.pairs[number][row] += u64::from(rows.has(row as u8));
+                }
+            }
         }
     }
+
+    /// How often each verdict was met.
+    fn verdicts(&self) -> String {
+        let mut line = format!("proved {} refuted {} refused", self.proved, self.refuted);
+        for number in 1..15 {
+            line.push_str(&format!(" {number}:{}", self.refused[number]));
+        }
+        line
+    }
+
+    /// What was met too seldom to say anything of.
+    fn seldom(&self) -> Vec<String> {
+        let passed = [("proved", self.proved), ("refuted", self.refuted)];
+        let passed = passed.map(|(word, count)| (word.to_string(), count));
+        let refused = (1..15).map(|number| (format!("refused {number}"), self.refused[number]));
+        let steps = STEP_WORDS.iter().zip(self.steps);
+        let steps = steps.map(|(word, n)| (format!("a proved derivation with {word}"), n));
+        let pairs = BEHIND.iter().flat_map(|&(first, behind)| {
+            behind.iter().map(move |&row| {
+                let count = self.pairs[usize::from(first)][usize::from(row)];
+                (format!("a line that rows {first} and {row} refuse"), count)
+            })
+        });
+        fewer(ENOUGH, passed.into_iter().chain(refused).chain(steps))
+            .chain(fewer(ENOUGH_PAIRS, pairs))
+            .collect()
+    }
+}
+
+/// Which of these were met fewer times than is enough, and how often.
+fn fewer(
+    enough: u64,
+    met: impl IntoIterator<Item = (String, u64)>,
+) -> impl Iterator<Item = String> {
+    met.into_iter()
+        .filter(move |&(_, count)| count < enough)
+        .map(move |(what, count)| format!("{what} ({count} of {enough})"))
 }
 
 /// The dossier at a place in the run of a seed, and the length of the room.
 fn dossier(seed: u64, place: u64) -> (Vec<u8>, usize) {
     let random = &mut Random::new(seed, place);
-    let room = if random.percent(10) {
-        random.pick(&[0, 1, 63, ROOM - 1, ROOM, ROOM + 1, ROOM + 2, 1_100, 2_048])
-    } else {
-        ROOM
-    };
     let text = match random.below(100) {
         0..=13 => make::text(&make::derivation(random)),
-        14..=49 => {
+        14..=46 => {
             let lines = make::derivation(random);
             damage::damaged(random, &lines)
         }
-        50..=59 => make::text(&make::model(random)),
-        60..=82 => {
+        47..=56 => make::text(&make::model(random)),
+        57..=77 => {
             let lines = make::model(random);
             damage::damaged(random, &lines)
         }
-        83..=94 => limits::dossier(random),
+        78..=88 => limits::dossier(random),
+        89..=95 => pairs::dossier(random),
         _ => damage::loose(random),
+    };
+    // Texts that are too long are few, and their rooms are to be too narrow often enough.
+    let other_room = if text.len() > TEXT { 80 } else { 10 };
+    let room = if random.percent(other_room) {
+        random.pick(&[0, 1, 63, ROOM - 1, ROOM, ROOM + 1, ROOM + 2, 1_100, 2_048])
+    } else {
+        ROOM
     };
     (text, room)
 }
@@ -141,8 +213,9 @@ fn run(seed: u64, first: u64) -> Counts {
         let (text, room) = dossier(seed, place);
         let ours = judge(room, &text);
         let theirs = judge_in(room, place as u8 | 1, &text);
-        counts.meet(ours, &text);
-        if theirs != Ok(ours) {
+        if theirs == Ok(ours) {
+            counts.meet(ours, room, &text);
+        } else {
             counts.differences += 1;
             if counts.differences <= SHOWN {
                 differ(
@@ -277,32 +350,14 @@ fn main() -> ExitCode {
             }
         }
     });
-    let mut line = format!(
-        "proved {} refuted {} refused",
-        counts.proved, counts.refuted
+    println!(
+        "against: {}; differences {}",
+        counts.verdicts(),
+        counts.differences
     );
-    let mut seldom = Vec::new();
-    let mut enough = |what: String, count: u64| {
-        if count < ENOUGH {
-            seldom.push(format!("{what} ({count})"));
-        }
-    };
-    enough("proved".to_string(), counts.proved);
-    enough("refuted".to_string(), counts.refuted);
-    for number in 1..15 {
-        let count = counts.refused[number];
-        line.push_str(&format!(" {number}:{count}"));
-        enough(format!("refused {number}"), count);
-    }
-    for (word, count) in STEP_WORDS.iter().zip(counts.steps) {
-        enough(format!("a proved derivation with {word}"), count);
-    }
-    println!("against: {line}; differences {}", counts.differences);
+    let seldom = counts.seldom();
     if !seldom.is_empty() {
-        println!(
-            "against: met fewer than {ENOUGH} times: {}",
-            seldom.join(", ")
-        );
+        println!("against: met too seldom: {}", seldom.join(", "));
     }
     if counts.differences == 0 && seldom.is_empty() {
         ExitCode::SUCCESS
