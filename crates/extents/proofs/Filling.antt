@@ -1,7 +1,7 @@
 -- The extensions, filled entry by entry: an entry's set follows from those above it, which are filled already, and a store leaves them as
 -- they are.
 -- Assumes nothing.
-use Prim.Native.Nat.{ℕ, zero, _+_, _<_}
+use Prim.Native.Nat.{ℕ, _+_, _<_}
 use native.Mathlib.Omega.{arith}
 use native.Mathlib.Decide.{ℕ-discrete}
 use mathlib.Core.Bool.{Bool, _&&_}

@@ -11,7 +11,7 @@ use Rattle.lines.specs.Text.{wordCount}
 use Rattle.lines.specs.declared.Line.{Line}
 use Rattle.alc.specs.Lists.{every, elem}
 use Rattle.alc.specs.Ranges as Ranges
-use Rattle.alc.specs.Ranges.{Field, inRange}
+use Rattle.alc.specs.Ranges.{inRange}
 use Rattle.alc.specs.Meaning.{everyBelow}
 use Rattle.alc.specs.Dossier.{saying}
 use Rattle.goals.proofs.RecordLaws.{and-left, and-right, and-end, below-at}

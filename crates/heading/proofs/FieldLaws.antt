@@ -10,7 +10,6 @@ use lib.ListN.{length, getD, List·getD-map}
 use Rattle.lines.specs.Text.{wordCount}
 use Rattle.lines.specs.declared.Line.{Line}
 use Rattle.alc.specs.Lists.{every}
-use Rattle.alc.specs.Ranges as Ranges
 use Rattle.alc.specs.Ranges.{Field, inRange}
 use Rattle.alc.specs.Claims.{Claim, left, right, claim}
 use Rattle.alc.specs.Rules.{stepFields}

@@ -4,8 +4,8 @@
 use Prim.Native.Nat.{ℕ}
 use mathlib.Core.Bool.{true}
 use mathlib.Core.List.{List}
-use mathlib.Core.Path.{_≡_, ap}
-use lib.Dec.{ltb, leb}
+use mathlib.Core.Path.{_≡_}
+use lib.Dec.{leb}
 use borrow.Author.Tests.{ltb-true, leb-true}
 use Rattle.alc.specs.Lists.{All, every}
 use Rattle.alc.specs.Ranges.{Field, role, atom, name, element, size, concept, inRange}

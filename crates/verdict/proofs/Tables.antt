@@ -26,7 +26,7 @@ use Rattle.alc.specs.Verdict.{verdict}
 use Rattle.room.proofs.Says.{Con}
 use Rattle.room.proofs.Walk.{ev, W, Data, mirOf, refS, copied, let-go, slice-ofS, slice-goneS, array-gone}
 use Rattle.room.proofs.Claims.{data!, claim-copied, claim-gone, claim-read, claim-is, claims-full, claims-gone, room-ptr, room-len, room-lent, lent-whole}
-use Rattle.derivation.proofs.Tables.{state, state-copied, state-gone, answerR, bytes, bytes-whole, bytes-spare}
+use Rattle.derivation.proofs.Tables.{state-copied, state-gone, answerR, bytes, bytes-whole, bytes-spare}
 use Rattle.opening.proofs.Opening as OT
 use Rattle.opening.proofs.Opening.Laws as OT′
 

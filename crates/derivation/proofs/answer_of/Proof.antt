@@ -3,7 +3,7 @@ use Prim.Native.Nat.{ℕ, zero, suc}
 use mathlib.Core.Path.{_≡_, refl, sym, ap, _∙_}
 use borrow.Author.Needs.{needs}
 use borrow.Author.Tests.{eqb-true, eqb-false}
-use Rattle.alc.specs.Verdict.{proved, refused}
+use Rattle.alc.specs.Verdict.{refused}
 use Rattle.states.specs.Standing.{verdictOf}
 use Rattle.derivation.proofs.answer_of.Statement.{statement}
 use Rattle.derivation.proofs.answer_of.Tie as tie

@@ -3,7 +3,7 @@ use mathlib.Core.Path.{refl, ap, sym, _∙_}
 use mathlib.Core.List.{[], _∷_}
 use Prim.Native.Nat.{ℕ}
 use lib.Dec.{lit<}
-use lib.ListN.{length, length-replicate}
+use lib.ListN.{length-replicate}
 use mir.Syntax.{w64, erased}
 use mir.Val.{vint}
 use contract.Running.{tablesOf}
