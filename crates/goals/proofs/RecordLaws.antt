@@ -23,9 +23,8 @@ use Rattle.alc.specs.Shown.{records, blank, kindAt}
 use Rattle.alc.specs.declared.Claim.{Claim as Record}
 use Rattle.alc.specs.declared.Goal.{Goal as Records}
 use Rattle.alc.proofs.Goal.{the-type}
-use Rattle.goals.specs.declared.Plan.{Plan as Planned}
 use Rattle.goals.specs.declared.Turn.{Turn}
-use Rattle.goals.specs.Records.{numbers, equal, sameRecord, hasName, lacking, keeping, asks, upTo, newsBy, added, recordRows, cutAt, premiseAt, Makes}
+use Rattle.goals.specs.Records.{numbers, equal, sameRecord, hasName, lacking, keeping, asks, upTo, newsBy, added, Ruling, newIn, keptBy, recordRows, cutAt, premiseAt, Makes}
 
 pub and-left : (a b : Bool) → (a && b) ≡ true → a ≡ true
 and-left true b h = refl
@@ -301,8 +300,8 @@ module _ (f : Record → Bool) (c d : Record) where
   every-two (suc zero) h g e = absurd (g refl)
   every-two (suc (suc n)) h g e = rw e (and-end (f d))
 
-pub news-asked : (f : ℕ → Bool) (b : Bool) (a : ℕ) → b ≡ true → f a ≡ every f (newsBy b a)
-news-asked f b a h = rw h (and-end (f a))
+pub news-asked : (l : List Record) (b : Bool) (a : ℕ) → b ≡ true → not (any (hasName a) l) ≡ newIn (newsBy b a) l
+news-asked l b a h = rw h (and-end (not (any (hasName a) l)))
 
 pub keep-all : (l : List Record) (b : Bool) (u : List Record) → b ≡ false → l ≡ keeping b u l
 keep-all l b u h = rw h
@@ -423,44 +422,38 @@ module _ (c d : Record) where
         and-twice (ltb m 64) ∙ ap₂ (λ a b. a && (b && true)) (long (c ∷ []) 64 refl) (long (d ∷ []) 64 refl)
 
 -- the rows of a plan, read from the top
-module _ (kind : ℕ) (p : Planned) (g k : List Record) (w : ℕ) where
-  abbrev ls : List (List Record)
-  ls = added (p .leaves) (p .first) (p .second)
-
+module _ (u : Ruling) (l : List Record) (w : ℕ) where
   abbrev t7 : Bool
-  t7 = every (λ c. any (sameRecord c) g) (upTo (p .needs) (p .need) (p .also))
-
-  abbrev t8 : Bool
-  t8 = every (λ a. not (any (hasName a) g)) (newsBy (p .fresh) (p .name .0))
+  t7 = every (λ c. any (sameRecord c) l) (u .needed)
 
   abbrev t10 : Bool
-  t10 = every (λ l. leb (length (k ++ l)) 64) ls
+  t10 = every (λ r. leb (length (keptBy u l ++ r)) 64) (u .comes)
 
-  pub at-6 : asks (p .kind) (kindAt kind) ≡ false → 6 ≡ refusal (recordRows kind p g k w)
+  pub at-6 : u .asked ≡ false → 6 ≡ refusal (recordRows u l w)
   unfolding recordRows
   at-6 e = rw e
 
-  module _ (e6 : asks (p .kind) (kindAt kind) ≡ true) where
-    pub at-7 : t7 ≡ false → 7 ≡ refusal (recordRows kind p g k w)
+  module _ (e6 : u .asked ≡ true) where
+    pub at-7 : t7 ≡ false → 7 ≡ refusal (recordRows u l w)
     unfolding recordRows
     at-7 e = rw (e6, e)
 
     module _ (e7 : t7 ≡ true) where
-      pub at-8 : t8 ≡ false → 8 ≡ refusal (recordRows kind p g k w)
+      pub at-8 : newIn (u .news) l ≡ false → 8 ≡ refusal (recordRows u l w)
       unfolding recordRows
       at-8 e = rw (e6, e7, e)
 
-      module _ (e8 : t8 ≡ true) where
-        pub at-10 : t10 ≡ false → 10 ≡ refusal (recordRows kind p g k w)
+      module _ (e8 : newIn (u .news) l ≡ true) where
+        pub at-10 : t10 ≡ false → 10 ≡ refusal (recordRows u l w)
         unfolding recordRows
         at-10 e = rw (e6, e7, e8, e)
 
         module _ (e10 : t10 ≡ true) where
-          pub at-11 : leb (length ls + w) 17 ≡ false → 11 ≡ refusal (recordRows kind p g k w)
+          pub at-11 : leb (length (u .comes) + w) 17 ≡ false → 11 ≡ refusal (recordRows u l w)
           unfolding recordRows
           at-11 e = rw (e6, e7, e8, e10, e)
 
-          pub at-0 : leb (length ls + w) 17 ≡ true → 0 ≡ refusal (recordRows kind p g k w)
+          pub at-0 : leb (length (u .comes) + w) 17 ≡ true → 0 ≡ refusal (recordRows u l w)
           unfolding recordRows
           at-0 e = rw (e6, e7, e8, e10, e)
 
@@ -481,18 +474,20 @@ few-open (suc zero) c d = omega arith
 few-open (suc (suc zero)) c d = omega arith
 few-open (suc (suc (suc n))) c d = omega arith
 
+-- a premise keeps as many records as its turn says
+pub cut-kept : (t : Turn) (g : Records) → Makes t g → length (records g) ≡ g .count → length (cutAt (t .at) (records g)) ≡ t .kept
+cut-kept t g m e = cut-length (records g) (t .at) (rw e (m .place)) ∙ ap (λ n. t .at + (n - (t .at + 1))) e ∙ sym (m .kept)
+
 -- a premise, written behind what is kept: nothing, one claim or two
 module _ (t : Turn) (g : Records) (long : length (g .claims) ≡ 64) (few : g .count ≤ 64) (m : Makes t g) where
-  cut-kept : length (cutAt (t .at) (records g)) ≡ t .kept
-  cut-kept =
-      let e : length (records g) ≡ g .count = length-take-le (g .count) (g .claims) (omega (arith, long)) in
-      cut-length (records g) (t .at) (rw e (m .place)) ∙ ap (λ n. t .at + (n - (t .at + 1))) e ∙ sym (m .kept)
+  size : length (cutAt (t .at) (records g)) ≡ t .kept
+  size = cut-kept t g m (length-take-le (g .count) (g .claims) (omega (arith, long)))
 
   pub room-one : (t .leaves ≡ 0 → ⊥) → (t .leaves ≡ 2 → ⊥) → t .kept < 64
-  room-one h k = ltb-true (t .kept) 64 (fits-one (t .first) (t .second) (cutAt (t .at) (records g)) (t .kept) cut-kept (t .leaves) h k ∙ m .room)
+  room-one h k = ltb-true (t .kept) 64 (fits-one (t .first) (t .second) (cutAt (t .at) (records g)) (t .kept) size (t .leaves) h k ∙ m .room)
 
   pub room-two : t .leaves ≡ 2 → t .kept < 63
-  room-two h = ltb-true (t .kept) 63 (fits-two (t .first) (t .second) (cutAt (t .at) (records g)) (t .kept) cut-kept (t .leaves) h ∙ m .room)
+  room-two h = ltb-true (t .kept) 63 (fits-two (t .first) (t .second) (cutAt (t .at) (records g)) (t .kept) size (t .leaves) h ∙ m .room)
 
   pub room-some : (t .leaves ≡ 0 → ⊥) → t .kept < 64
   room-some h = go (ℕ-discrete (t .leaves) 2)

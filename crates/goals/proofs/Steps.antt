@@ -1,5 +1,5 @@
--- What the code finds among records is what the rows of a step say of claims: a record is equal to another exactly if its claim is, so
--- each test on records is the test on claims. Assumes nothing.
+-- What is found among the records of claims is what the rows of a step say of the claims: a record is equal to another exactly if its claim is, so
+-- each test on records is the test on claims, and so are the premises. Assumes nothing.
 use Prim.Native.Nat.{ℕ, zero, suc, _+_, _≤_, _<_}
 use native.Mathlib.Omega.{arith}
 use native.Mathlib.Decide.{ℕ-discrete}
@@ -11,18 +11,17 @@ use lib.Dec.{eqb, ltb, leb}
 use lib.ListN.{length, getD, length-map, length-append}
 use borrow.Author.Tests.{eqb-true, eq-eqb, leb-true}
 use Rattle.alc.specs.Lists.{any, every, elem}
-use Rattle.alc.specs.Rows.{refusal}
+use Rattle.alc.specs.Rows.{Row, row, refusal}
 use Rattle.alc.specs.Ranges.{inRange}
 use Rattle.alc.specs.Table.{Table}
-use Rattle.alc.specs.Claims.{is, sub, link, Claim-discrete, Sided, left, right, Sided-discrete, Goal, same, has, without}
+use Rattle.alc.specs.Claims.{is, sub, link, Claim-discrete, Sided, left, right, Sided-discrete, Goal, names, claim, same, has, without}
 use Rattle.alc.specs.Rules.{Step, stepFields, Plan, plan}
 use Rattle.alc.specs.Goals.{avoids, areNew, rest, premises, stepRows}
-use Rattle.alc.specs.Shown.{recordOf, kindAt}
+use Rattle.alc.specs.Shown.{recordOf}
 use Rattle.alc.proofs.ShownLaws.{record-once}
 use Rattle.alc.specs.declared.Claim.{Claim as Record}
-use Rattle.goals.specs.declared.Plan.{Plan as Planned}
 use Rattle.goals.specs.declared.Turn.{Turn}
-use Rattle.goals.specs.Records.{sameRecord, hasName, lacking, keeping, asks, upTo, newsBy, added, recordRows, ruleRows, premiseAt, Plans, Leaves, none, one, two}
+use Rattle.goals.specs.Records.{sameRecord, hasName, lacking, keeping, added, Ruling, ruling, newIn, keptBy, recordRows, premiseAt, Turns}
 use Rattle.goals.proofs.RecordLaws.{bool-by, same-eq, eq-same}
 
 same-record : (s t : Sided) → sameRecord (recordOf s) (recordOf t) ≡ same s t
@@ -50,7 +49,7 @@ lacking-record s (t ∷ cs) = rw (same-record s t, lacking-record s cs) (pick (s
     pick true = refl
     pick false = refl
 
-pub keeping-record : (b : Bool) (ns cs : List Sided) → keeping b (map recordOf ns) (map recordOf cs) ≡ map recordOf (rest b ns cs)
+keeping-record : (b : Bool) (ns cs : List Sided) → keeping b (map recordOf ns) (map recordOf cs) ≡ map recordOf (rest b ns cs)
 keeping-record false ns cs = refl
 keeping-record true [] cs = refl
 keeping-record true (s ∷ ns) cs = lacking-record s cs
@@ -81,29 +80,35 @@ name-claim a (right (is x i)) = rw (or-none (eqb a x), eqb-turn a x) (lone (eqb 
 name-claim a (right (sub i j)) = refl
 name-claim a (right (link r x y)) = rw (eqb-turn a x, eqb-turn a y) (pair (eqb x a) (eqb y a))
 
+not-or : (b c : Bool) → not (b || c) ≡ (not b && not c)
+not-or true c = refl
+not-or false c = refl
+
 any-names : (a : ℕ) (cs : List Sided) → not (any (hasName a) (map recordOf cs)) ≡ every (avoids (a ∷ [])) cs
 any-names a [] = refl
 any-names a (s ∷ cs) = not-or (hasName a (recordOf s)) (any (hasName a) (map recordOf cs)) ∙ ap₂ _&&_ (name-claim a s) (any-names a cs)
-  where
-    not-or : (b c : Bool) → not (b || c) ≡ (not b && not c)
-    not-or true c = refl
-    not-or false c = refl
 
-no-names : (l : List ℕ) → every (λ a. not (elem a [])) l ≡ true
-no-names [] = refl
-no-names (a ∷ l) = no-names l
+-- a test that is two tests
+module _ {A : Type 0} (f g h : A → Bool) (e : (x : A) → h x ≡ (f x && g x)) where
+  every-both : (l : List A) → every h l ≡ (every f l && every g l)
+  every-both [] = refl
+  every-both (x ∷ l) = rw (e x, every-both l) (swap (f x) (g x) (every f l) (every g l))
+    where
+      swap : (a b c d : Bool) → ((a && b) && (c && d)) ≡ ((a && c) && (b && d))
+      swap true true c d = refl
+      swap true false true d = refl
+      swap true false false d = refl
+      swap false b c d = refl
 
-none-new : (cs : List Sided) → true ≡ areNew [] cs
-none-new [] = refl
-none-new (s ∷ cs) = rw (no-names (Rattle.alc.specs.Claims.names (Rattle.alc.specs.Claims.claim s))) (none-new cs)
+every-true : {A : Type 0} (f : A → Bool) → ((x : A) → f x ≡ true) → (l : List A) → every f l ≡ true
+every-true f e [] = refl
+every-true f e (x ∷ l) = rw (e x, every-true f e l)
 
-news-record : (b : Bool) (a : ℕ) (cs : List Sided) → every (λ x. not (any (hasName x) (map recordOf cs))) (newsBy b a) ≡ areNew (newsBy b a) cs
-news-record true a cs = and-none (not (any (hasName a) (map recordOf cs))) ∙ any-names a cs
-  where
-    and-none : (b : Bool) → (b && true) ≡ b
-    and-none true = refl
-    and-none false = refl
-news-record false a cs = none-new cs
+news-record : (ns : List ℕ) (cs : List Sided) → every (λ a. not (any (hasName a) (map recordOf cs))) ns ≡ every (avoids ns) cs
+news-record [] cs = sym (every-true (avoids []) (λ s. every-true (λ a. not (elem a [])) (λ a. refl) (names (claim s))) cs)
+news-record (a ∷ ns) cs =
+    ap₂ _&&_ (any-names a cs) (news-record ns cs)
+    ∙ sym (every-both (avoids (a ∷ [])) (avoids ns) (avoids (a ∷ ns)) (λ s. every-both (λ b. not (elem b (a ∷ []))) (λ b. not (elem b ns)) (λ b. not (elem b (a ∷ ns))) (λ b. rw (or-none (eqb b a)) (not-or (eqb b a) (elem b ns))) (names (claim s))) cs)
 
 -- the premises
 pub map-append : (l m : List Sided) → map recordOf (l ++ m) ≡ map recordOf l ++ map recordOf m
@@ -117,38 +122,27 @@ module _ (kept : List Sided) where
   small-record (l ∷ ls) =
       ap₂ _&&_ (ap (λ n. leb n 64) (ap length (sym (map-append kept l)) ∙ length-map (kept ++ l) recordOf)) (small-record ls)
 
-  pub premise-record : (ls : List (List Sided)) (i : ℕ) → i < length ls
+  premise-record : (ls : List (List Sided)) (i : ℕ) → i < length ls
       → map recordOf kept ++ getD (map (map recordOf) ls) i [] ≡ map recordOf (getD (map (λ l. kept ++ l) ls) i [])
   premise-record [] i h = absurd (not-suc-le-zero h)
   premise-record (l ∷ ls) zero h = sym (map-append kept l)
   premise-record (l ∷ ls) (suc i) h = premise-record ls i (le-of-suc-le-suc h)
 
--- a plan that is the row q, at claims cs, of which it keeps what q keeps
-module _ (kind : ℕ) (p : Planned) (q : Plan) (pl : Plans (kindAt kind) p q) (cs : List Sided) where
-  abbrev pub kept : List Sided
-  kept = rest (q .drops) (q .needs) cs
+-- the rows of a step that speak of its rule, at the goal g with w goals waiting
+unfoldable pub ruleRows : Plan → Goal → ℕ → List Row
+ruleRows p g w =
+    row 6 (p .asks)
+    ∷ row 7 (every (has g) (p .needs))
+    ∷ row 8 (areNew (p .news) g)
+    ∷ row 10 (every (λ h. leb (length h) 64) (premises p g))
+    ∷ row 11 (leb (length (premises p g) + w) 17)
+    ∷ []
 
-  pub kept-shown : keeping (p .drops) (upTo (p .needs) (p .need) (p .also)) (map recordOf cs) ≡ map recordOf kept
-  kept-shown = rw (pl .needed, pl .dropped) (keeping-record (q .drops) (q .needs) cs)
-
-  pub open-shown : length (added (p .leaves) (p .first) (p .second)) ≡ length (premises q cs)
-  open-shown = rw (pl .left) (length-map (q .premises) (map recordOf) ∙ sym (length-map (q .premises) (λ l. kept ++ l)))
-
-  pub small-shown : every (λ l. leb (length (map recordOf kept ++ l)) 64) (added (p .leaves) (p .first) (p .second)) ≡ every (λ h. leb (length h) 64) (premises q cs)
-  small-shown = rw (pl .left) (small-record kept (q .premises))
-
-  pub premise-shown : (i : ℕ) → i < length (premises q cs)
-      → map recordOf kept ++ getD (added (p .leaves) (p .first) (p .second)) i [] ≡ map recordOf (getD (premises q cs) i [])
-  premise-shown i h = rw (pl .left) (premise-record kept (q .premises) i (rw (length-map (q .premises) (λ l. kept ++ l)) at h))
-
-  pub rows-shown : (w : ℕ) → refusal (recordRows kind p (map recordOf cs) (map recordOf kept) w) ≡ refusal (ruleRows q cs w)
-  unfolding recordRows ruleRows
-  rows-shown w =
-      let e7 : every (λ c. any (sameRecord c) (map recordOf cs)) (upTo (p .needs) (p .need) (p .also)) ≡ every (has cs) (q .needs) =
-      ap (every (λ c. any (sameRecord c) (map recordOf cs))) (pl .needed) ∙ needs-record cs (q .needs) in
-      let e8 : every (λ a. not (any (hasName a) (map recordOf cs))) (newsBy (p .fresh) (p .name .0)) ≡ areNew (q .news) cs =
-      news-record (p .fresh) (p .name .0) cs ∙ ap (λ ns. areNew ns cs) (pl .news) in
-      rw (pl .asked, e7, e8, small-shown, open-shown)
+-- the premises that a turn leaves of the records l: none, one, or two, of which the first is worked on and the second waits under it
+pub data Leaves (l : List Record) (t : Turn) : List Goal → Type 0 where
+  none : t .opens ≡ 0 → Leaves l t []
+  one : (h : Goal) → t .opens ≡ 1 → premiseAt 0 t l ≡ map recordOf h → Leaves l t (h ∷ [])
+  two : (h k : Goal) → t .opens ≡ 2 → premiseAt 0 t l ≡ map recordOf h → premiseAt 1 t l ≡ map recordOf k → Leaves l t (h ∷ k ∷ [])
 
 -- the rows of a step with a goal open: its count and its ranges, then those of its rule
 pub step-rows : (T : Table) (n : ℕ) (g : Goal) (gs : List Goal) (s : Step)
@@ -157,30 +151,18 @@ pub step-rows : (T : Table) (n : ℕ) (g : Goal) (gs : List Goal) (s : Step)
 unfolding stepRows ruleRows
 step-rows T n g gs s = rw (length-append (premises (plan T s) g) gs)
 
--- the same for the records that the code holds: those of the goal g, and those k that the plan keeps of them
-module _ (kind : ℕ) (p : Planned) (q : Plan) (pl : Plans (kindAt kind) p q) (cs : List Sided) (g k : List Record)
-    (sg : g ≡ map recordOf cs) (sk : k ≡ keeping (p .drops) (upTo (p .needs) (p .need) (p .also)) g) where
-  held : k ≡ map recordOf (kept kind p q pl cs)
-  held = sk ∙ ap (keeping (p .drops) (upTo (p .needs) (p .need) (p .also))) sg ∙ kept-shown kind p q pl cs
-
-  pub held-rows : (w : ℕ) → refusal (recordRows kind p g k w) ≡ refusal (ruleRows q cs w)
-  held-rows w = ap₂ (λ a b. refusal (recordRows kind p a b w)) sg held ∙ rows-shown kind p q pl cs w
-
-  pub held-premise : (i : ℕ) → i < length (premises q cs) → k ++ getD (added (p .leaves) (p .first) (p .second)) i [] ≡ map recordOf (getD (premises q cs) i [])
-  held-premise i h = ap (λ a. a ++ getD (added (p .leaves) (p .first) (p .second)) i []) held ∙ premise-shown kind p q pl cs i h
-
 -- where no row fails no premise is too long, and at most 17 goals are open
 cond-zero : (b : Bool) (x n : ℕ) → (n ≡ 0 → ⊥) → cond b x n ≡ 0 → (b ≡ true) × (x ≡ 0)
 cond-zero true x n h e = (refl, e)
 cond-zero false x n h e = absurd (h e)
 
-module _ (kind : ℕ) (p : Planned) (g k : List Record) (w : ℕ) (e : refusal (recordRows kind p g k w) ≡ 0) where
-  past-8 : _≡_ {A = ℕ} (cond (every (λ l. leb (length (k ++ l)) 64) (added (p .leaves) (p .first) (p .second))) (cond (leb (length (added (p .leaves) (p .first) (p .second)) + w) 17) 0 11) 10) 0
+module _ (u : Ruling) (l : List Record) (w : ℕ) (e : refusal (recordRows u l w) ≡ 0) where
+  past-8 : _≡_ {A = ℕ} (cond (every (λ r. leb (length (keptBy u l ++ r)) 64) (u .comes)) (cond (leb (length (u .comes) + w) 17) 0 11) 10) 0
   unfolding recordRows
   past-8 =
-      let e6 = cond-zero (asks (p .kind) (kindAt kind)) _ 6 six e in
-      let e7 = cond-zero (every (λ c. any (sameRecord c) g) (upTo (p .needs) (p .need) (p .also))) _ 7 seven (e6 .1) in
-      cond-zero (every (λ a. not (any (hasName a) g)) (newsBy (p .fresh) (p .name .0))) _ 8 eight (e7 .1) .1
+      let e6 = cond-zero (u .asked) _ 6 six e in
+      let e7 = cond-zero (every (λ c. any (sameRecord c) l) (u .needed)) _ 7 seven (e6 .1) in
+      cond-zero (newIn (u .news) l) _ 8 eight (e7 .1) .1
     where
       six : _≡_ {A = ℕ} 6 0 → ⊥
       six h = omega arith
@@ -191,25 +173,55 @@ module _ (kind : ℕ) (p : Planned) (g k : List Record) (w : ℕ) (e : refusal (
       eight : _≡_ {A = ℕ} 8 0 → ⊥
       eight h = omega arith
 
-  past-10 : (every (λ l. leb (length (k ++ l)) 64) (added (p .leaves) (p .first) (p .second)) ≡ true) × _≡_ {A = ℕ} (cond (leb (length (added (p .leaves) (p .first) (p .second)) + w) 17) 0 11) 0
-  past-10 = cond-zero _ (cond (leb (length (added (p .leaves) (p .first) (p .second)) + w) 17) 0 11) 10 ten past-8
+  past-10 : (every (λ r. leb (length (keptBy u l ++ r)) 64) (u .comes) ≡ true) × _≡_ {A = ℕ} (cond (leb (length (u .comes) + w) 17) 0 11) 0
+  past-10 = cond-zero _ (cond (leb (length (u .comes) + w) 17) 0 11) 10 ten past-8
     where
       ten : _≡_ {A = ℕ} 10 0 → ⊥
       ten h = omega arith
 
-  pub all-small : every (λ l. leb (length (k ++ l)) 64) (added (p .leaves) (p .first) (p .second)) ≡ true
+  pub all-small : every (λ r. leb (length (keptBy u l ++ r)) 64) (u .comes) ≡ true
   all-small = past-10 .0
 
-  pub all-open : length (added (p .leaves) (p .first) (p .second)) + w ≤ 17
-  all-open = leb-true _ 17 (cond-zero (leb (length (added (p .leaves) (p .first) (p .second)) + w) 17) 0 11 eleven (past-10 .1) .0)
+  pub all-open : length (u .comes) + w ≤ 17
+  all-open = leb-true _ 17 (cond-zero (leb (length (u .comes) + w) 17) 0 11 eleven (past-10 .1) .0)
     where
       eleven : _≡_ {A = ℕ} 11 0 → ⊥
       eleven h = omega arith
 
 -- the premises of a turn, by their count
-pub leaves-of : (l : List Record) (t : Turn) (ps : List Goal) → t .opens ≡ length ps → length ps ≤ 2
+leaves-of : (l : List Record) (t : Turn) (ps : List Goal) → t .opens ≡ length ps → length ps ≤ 2
     → ((i : ℕ) → i < length ps → premiseAt i t l ≡ map recordOf (getD ps i [])) → Leaves l t ps
 leaves-of l t [] e few f = none e
 leaves-of l t (h ∷ []) e few f = one h e (f 0 (omega arith))
 leaves-of l t (h ∷ k ∷ []) e few f = two h k e (f 0 (omega arith)) (f 1 (omega arith))
 leaves-of l t (h ∷ k ∷ m ∷ ps) e few f = absurd (omega arith)
+
+-- where the records are those of claims, what a step does at them is what it does at the claims
+module _ (q : Plan) (cs : List Sided) where
+  abbrev kept : List Sided
+  kept = rest (q .drops) (q .needs) cs
+
+  opens-shown : length (ruling q .comes) ≡ length (premises q cs)
+  opens-shown = length-map (q .premises) (map recordOf) ∙ sym (length-map (q .premises) (λ l. kept ++ l))
+
+  rows-shown : (w : ℕ) → recordRows (ruling q) (map recordOf cs) w ≡ ruleRows q cs w
+  unfolding recordRows ruleRows
+  rows-shown w =
+      rw (needs-record cs (q .needs), news-record (q .news) cs, keeping-record (q .drops) (q .needs) cs, small-record kept (q .premises), opens-shown)
+
+  module _ (b : List Row) (l : List Record) (sl : l ≡ map recordOf cs) (w : ℕ) (t : Turn) (r : Turns b (ruling q) l w t) where
+    pub number-shown : t .number ≡ refusal (b ++ ruleRows q cs w)
+    number-shown = r .number ∙ ap (λ m. refusal (b ++ recordRows (ruling q) m w)) sl ∙ ap (λ rs. refusal (b ++ rs)) (rows-shown w)
+
+    -- where it passes
+    module _ (z : t .number ≡ 0) (opens : t .opens ≡ length (added (t .leaves) (t .first) (t .second))) (few : t .opens ≤ 2) where
+      count : t .opens ≡ length (premises q cs)
+      count = opens ∙ ap length (r .leaves z .1) ∙ opens-shown
+
+      premise-shown : (i : ℕ) → i < length (premises q cs) → premiseAt i t l ≡ map recordOf (getD (premises q cs) i [])
+      premise-shown i h =
+          ap₂ (λ k m. k ++ getD m i []) (r .leaves z .0 ∙ ap (keptBy (ruling q)) sl ∙ keeping-record (q .drops) (q .needs) cs) (r .leaves z .1)
+          ∙ premise-record kept (q .premises) i (rw (length-map (q .premises) (λ l. kept ++ l)) at h)
+
+      pub leaves-shown : Leaves l t (premises q cs)
+      leaves-shown = leaves-of l t (premises q cs) count (omega (arith, count)) premise-shown

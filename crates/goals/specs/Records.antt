@@ -6,13 +6,11 @@ use mathlib.Core.List.{List, [], _∷_, _++_, map}
 use mathlib.Core.Path.{_≡_}
 use lib.Dec.{eqb, ltb, leb}
 use lib.ListN.{length, getD, take, drop}
-use Rattle.alc.specs.Lists.{any, every}
+use Rattle.alc.specs.Lists.{any, every, distinct}
 use Rattle.alc.specs.Rows.{Row, row, refusal}
 use Rattle.alc.specs.Table.{Kind, Kind-discrete}
-use Rattle.alc.specs.Claims.{Goal, has}
 use Rattle.alc.specs.Rules
 use Rattle.alc.specs.Rules.{Step, Plan}
-use Rattle.alc.specs.Goals.{areNew, premises}
 use Rattle.alc.specs.Shown.{records, recordOf, kindAt}
 use Rattle.alc.specs.declared.Claim.{Claim as Record}
 use Rattle.alc.specs.declared.Goal.{Goal as Records}
@@ -94,13 +92,34 @@ abbrev pub newsBy : Bool → ℕ → List ℕ
 newsBy true b = b ∷ []
 newsBy false b = []
 
+-- a plan as records show it: whether the entry is of the kind asked, the records needed, whether the first of them is dropped, the names that must be
+-- new, and the records that come last in each premise
+pub record Ruling : Type 0 where
+  pub asked : Bool
+  pub needed : List Record
+  pub drops : Bool
+  pub news : List ℕ
+  pub comes : List (List Record)
+
+-- that of a rule's plan
+abbrev pub ruling : Plan → Ruling
+ruling q =
+    record { asked = q .asks; needed = map recordOf (q .needs); drops = q .drops; news = q .news; comes = map (map recordOf) (q .premises) }
+
+-- that of the code's plan, at an entry of kind k
+abbrev pub rulingBy : Kind → Planned → Ruling
+rulingBy k p =
+    record {
+      asked = asks (p .kind) k;
+      needed = upTo (p .needs) (p .need) (p .also);
+      drops = p .drops;
+      news = newsBy (p .fresh) (p .name .0);
+      comes = added (p .leaves) (p .first) (p .second);
+    }
+
 -- the code's plan p, at an entry of kind k, is the plan q
 pub record Plans (k : Kind) (p : Planned) (q : Plan) : Type 0 where
-  pub asked : asks (p .kind) k ≡ q .asks
-  pub needed : upTo (p .needs) (p .need) (p .also) ≡ map recordOf (q .needs)
-  pub dropped : p .drops ≡ q .drops
-  pub news : newsBy (p .fresh) (p .name .0) ≡ q .news
-  pub left : added (p .leaves) (p .first) (p .second) ≡ map (map recordOf) (q .premises)
+  pub is : rulingBy k p ≡ ruling q
 
 -- the four forms of a plan. A goal closes
 abbrev pub closing : ℕ → ℕ → Record → Record → Planned
@@ -122,25 +141,22 @@ abbrev pub opening : ℕ → Record → Name → Record → Record → Planned
 opening k need b first second =
     record { kind = k; needs = 1; need = need; also = need; drops = true; fresh = true; name = b; leaves = 2; first = first; second = second }
 
--- the rows of a step that speak of its rule, as the records say them: at the records g, of which the plan keeps those of k, with w goals waiting
-unfoldable pub recordRows : ℕ → Planned → List Record → List Record → ℕ → List Row
-recordRows kind p g k w =
-    let ls = added (p .leaves) (p .first) (p .second) in
-    row 6 (asks (p .kind) (kindAt kind))
-    ∷ row 7 (every (λ c. any (sameRecord c) g) (upTo (p .needs) (p .need) (p .also)))
-    ∷ row 8 (every (λ a. not (any (hasName a) g)) (newsBy (p .fresh) (p .name .0)))
-    ∷ row 10 (every (λ l. leb (length (k ++ l)) 64) ls)
-    ∷ row 11 (leb (length ls + w) 17)
-    ∷ []
+-- the names are new: in none of the records, and none of them twice
+abbrev pub newIn : List ℕ → List Record → Bool
+newIn news l = distinct news && every (λ a. not (any (hasName a) l)) news
 
--- the same rows as the definitions say them, at the goal g with w goals waiting
-unfoldable pub ruleRows : Plan → Goal → ℕ → List Row
-ruleRows p g w =
-    row 6 (p .asks)
-    ∷ row 7 (every (has g) (p .needs))
-    ∷ row 8 (areNew (p .news) g)
-    ∷ row 10 (every (λ h. leb (length h) 64) (premises p g))
-    ∷ row 11 (leb (length (premises p g) + w) 17)
+-- what the premises keep of the records l
+abbrev pub keptBy : Ruling → List Record → List Record
+keptBy u l = keeping (u .drops) (u .needed) l
+
+-- the rows of a step that speak of its rule, at the records l with w goals waiting
+unfoldable pub recordRows : Ruling → List Record → ℕ → List Row
+recordRows u l w =
+    row 6 (u .asked)
+    ∷ row 7 (every (λ c. any (sameRecord c) l) (u .needed))
+    ∷ row 8 (newIn (u .news) l)
+    ∷ row 10 (every (λ r. leb (length (keptBy u l ++ r)) 64) (u .comes))
+    ∷ row 11 (leb (length (u .comes) + w) 17)
     ∷ []
 
 -- the records without the one at a place; all of them where the place is behind the last
@@ -158,14 +174,8 @@ pub record Makes (t : Turn) (g : Records) : Type 0 where
   pub room : every (λ l. leb (length (cutAt (t .at) (records g) ++ l)) 64) (added (t .leaves) (t .first) (t .second)) ≡ true
   pub opens : t .opens ≡ length (added (t .leaves) (t .first) (t .second))
 
--- the premises that a turn leaves of the records l: none, one, or two, of which the first is worked on and the second waits under it
-pub data Leaves (l : List Record) (t : Turn) : List Goal → Type 0 where
-  none : t .opens ≡ 0 → Leaves l t []
-  one : (h : Goal) → t .opens ≡ 1 → premiseAt 0 t l ≡ map recordOf h → Leaves l t (h ∷ [])
-  two : (h k : Goal) → t .opens ≡ 2 → premiseAt 0 t l ≡ map recordOf h → premiseAt 1 t l ≡ map recordOf k → Leaves l t (h ∷ k ∷ [])
-
--- what a step does at the goal cs, whose records are l, with w goals waiting: the number of the first row that it does not pass, and its premises
--- where it passes all
-pub record Turns (q : Plan) (cs : Goal) (l : List Record) (w : ℕ) (t : Turn) : Type 0 where
-  pub number : t .number ≡ refusal (ruleRows q cs w)
-  pub leaves : t .number ≡ 0 → Leaves l t (premises q cs)
+-- what a step does at the records l, whatever they are, with w goals waiting, where other rows come before those of its rule: the number of the first
+-- row that it does not pass, and where it passes all, what its premises keep and what comes last in each
+pub record Turns (before : List Row) (u : Ruling) (l : List Record) (w : ℕ) (t : Turn) : Type 0 where
+  pub number : t .number ≡ refusal (before ++ recordRows u l w)
+  pub leaves : t .number ≡ 0 → (cutAt (t .at) l ≡ keptBy u l) × (added (t .leaves) (t .first) (t .second) ≡ u .comes)

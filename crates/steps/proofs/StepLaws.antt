@@ -14,29 +14,30 @@ use Rattle.lines.specs.Text.{words, rowOf, wordCount, stands as allowedAt}
 use Rattle.lines.specs.declared.Line.{Line}
 use Rattle.lines.proofs.Told.{Told}
 use Rattle.alc.specs.Lists.{every}
-use Rattle.alc.specs.Rows.{refusal}
+use Rattle.alc.specs.Rows.{Row, refusal}
 use Rattle.alc.specs.Ranges.{inRange}
 use Rattle.alc.specs.Meaning.{everyBelow}
 use Rattle.alc.specs.Table.{Kind, Table, entry, entryOf}
 use Rattle.alc.specs.Claims.{Sided, Goal}
 use Rattle.alc.specs.declared.Claim.{Claim as Record}
+use Rattle.alc.specs.declared.Goal.{Goal as Records}
 use Rattle.alc.specs.Rules
 use Rattle.alc.specs.Rules.{Step, stepFields, plan}
 use Rattle.alc.specs.Goals.{stepRows, premises, goalsAfter}
 use Rattle.alc.specs.Dossier.{Said, step, size, fact, unread, sayings, saying}
 use Rattle.alc.specs.Model.{places, has, edge}
-use Rattle.alc.specs.Shown.{tableOf}
+use Rattle.alc.specs.Shown.{records, Shows, tableOf}
 use Rattle.alc.specs.Verdict.{rows, after}
 use Rattle.alc.proofs.ShownLaws.{table-length}
 use Rattle.goals.specs.declared.Turn.{Turn}
-use Rattle.goals.specs.Records.{stepOf, ruleRows, Turns}
+use Rattle.goals.specs.Records.{stepOf, Ruling, Turns}
 use Rattle.goals.proofs.RecordLaws.{below-at, and-left, and-right}
-use Rattle.goals.proofs.Steps.{step-rows}
+use Rattle.goals.proofs.Steps.{ruleRows, Leaves, step-rows, number-shown, leaves-shown}
 use Rattle.heading.specs.Fields.{saidFields}
 use Rattle.heading.specs.Parts.{inSteps}
 use Rattle.heading.proofs.Small.{Small, small}
 use Rattle.heading.proofs.TableLaws.{byte}
-use Rattle.steps.specs.Turning.{stepIn, turnRows, Turned}
+use Rattle.steps.specs.Turning.{stepIn, rangeRow, TurnAt}
 
 -- the words that stand in the steps' place are those from 13 to 31: a test of all words
 of-steps : ℕ → Bool
@@ -97,14 +98,27 @@ pub entry-past : (ks xs ys : List ℕ) (n i : ℕ) → n ≤ i → entry (tableO
 entry-past ks xs ys n i h = List·getD-eq-default (tableOf ks xs ys n) (entryOf Kind.top 0 0) (rw (table-length ks xs ys n) h)
 
 -- what a line does, by its first row and by the turn of its step
-module _ (T : Table) (entries : ℕ) (l : Line) (cs : List Sided) (rs : List Record) (w : ℕ) (t : Turn) where
-  pub turned-3 : every (inRange entries 0) (saidFields (saying l)) ≡ false → t .number ≡ 3 → Turned T entries l cs rs w t
-  unfolding turnRows
+module _ (entries : ℕ) (l : Line) (u : Ruling) (rs : List Record) (w : ℕ) (t : Turn) where
+  pub turned-3 : every (inRange entries 0) (saidFields (saying l)) ≡ false → t .number ≡ 3 → Turns (rangeRow entries l ∷ []) u rs w t
+  unfolding rangeRow
   turned-3 h e = record { number = e ∙ (rw h); leaves = λ z. absurd (omega (arith, e)) }
 
-  pub turned : every (inRange entries 0) (saidFields (saying l)) ≡ true → Turns (plan T (stepIn l)) cs rs w t → Turned T entries l cs rs w t
+  pub turned : every (inRange entries 0) (saidFields (saying l)) ≡ true → Turns [] u rs w t → Turns (rangeRow entries l ∷ []) u rs w t
+  unfolding rangeRow
+  turned h r = record { number = r .number ∙ (rw h); leaves = r .leaves }
+
+-- the rows of a line at the goal g, with so many entries in the table and w goals waiting
+unfoldable pub turnRows : Table → ℕ → Line → Goal → ℕ → List Row
+turnRows T entries l g w = rangeRow entries l ∷ ruleRows (plan T (stepIn l)) g w
+
+-- where the goal's records are those of claims, the line does at them what it does at the claims
+module _ (T : Table) (entries : ℕ) (l : Line) (g : Records) (w : ℕ) (t : Turn) (d : TurnAt T entries l g w t) (cs : Goal) (sg : Shows g cs) where
+  pub number-here : t .number ≡ refusal (turnRows T entries l cs w)
   unfolding turnRows
-  turned h u = record { number = u .number ∙ (rw h); leaves = u .leaves }
+  number-here = number-shown (plan T (stepIn l)) cs (rangeRow entries l ∷ []) (records g) sg w t (d .turned)
+
+  pub leaves-here : t .number ≡ 0 → Leaves (records g) t (premises (plan T (stepIn l)) cs)
+  leaves-here z = leaves-shown (plan T (stepIn l)) cs (rangeRow entries l ∷ []) (records g) sg w t (d .turned) z (d .makes z .0 .opens) (d .few)
 
 -- the judge's rows of a line of the steps
 module _ (T : Table) (entries : ℕ) (long : length T ≡ entries) (few : entries ≤ 256) (l : Line) (t : Told l) (w13 : 13 ≤ l .word) (w32 : l .word < 32) (cs : List Sided) (n : ℕ) where
@@ -123,7 +137,7 @@ module _ (T : Table) (entries : ℕ) (long : length T ≡ entries) (few : entrie
   fits h = small l t entries 0 few (omega arith) h
 
   pub rows-turn : (g : Goal) (gs : List Goal) → ltb n 1024 ≡ true → refusal (rows (inSteps T cs n (g ∷ gs)) (saying l)) ≡ refusal (turnRows T entries l g (length gs))
-  unfolding rows turnRows
+  unfolding rows rangeRow turnRows
   rows-turn g gs h = go (every (inRange entries 0) (saidFields (saying l))) refl
     where
       go : (b : Bool) → every (inRange entries 0) (saidFields (saying l)) ≡ b
@@ -139,7 +153,7 @@ module _ (T : Table) (entries : ℕ) (long : length T ≡ entries) (few : entrie
 
   -- a line that passes is in its ranges, so the step after it is the one tested
   pub in-ranges : (g : Goal) (w : ℕ) → refusal (turnRows T entries l g w) ≡ 0 → every (inRange entries 0) (saidFields (saying l)) ≡ true
-  unfolding turnRows
+  unfolding rangeRow turnRows
   in-ranges g w e = go (every (inRange entries 0) (saidFields (saying l))) refl e
     where
       go : (b : Bool) → every (inRange entries 0) (saidFields (saying l)) ≡ b → cond b (refusal (ruleRows (plan T (stepIn l)) g w)) 3 ≡ 0

@@ -28,19 +28,20 @@ use Rattle.alc.specs.Verdict.{Verdict, proved, refused, rows, ending, judge}
 use Rattle.alc.specs.declared.Goal.{Goal as Records}
 use Rattle.alc.proofs.ShownLaws.{table-length}
 use Rattle.goals.specs.declared.Turn.{Turn}
-use Rattle.goals.specs.Records.{added, premiseAt, Makes, Leaves, none, one, two}
+use Rattle.goals.specs.Records.{added, premiseAt, Makes}
 use Rattle.goals.proofs.RecordLaws.{two-opens, comes-one}
+use Rattle.goals.proofs.Steps.{Leaves, none, one, two}
 use Rattle.heading.specs.Parts.{inSteps}
 use Rattle.heading.proofs.Judging.{judge-end, judge-bad, judge-next, judge-refused}
 use Rattle.states.specs.Standing.{stateOf, stoppedOf, passedOf, partedOf, lastOf, takenOf, closedOf, afterOf, verdictOf}
 use Rattle.states.specs.declared.State.{State}
 use Rattle.states.specs.declared.Act.{Act}
-use Rattle.steps.specs.Turning.{stepIn, Turned, TurnAt}
+use Rattle.steps.specs.Turning.{stepIn, TurnAt}
 use Rattle.steps.specs.Acting
 use Rattle.steps.specs.Acting.{Ready, Current, from, turnedBy, ActAt}
 use Rattle.steps.proofs.Leading
 use Rattle.steps.proofs.Leading.{Acts, Next, Leads, Acted}
-use Rattle.steps.proofs.StepLaws.{step-word, rows-5, rows-9, rows-turn, after-turn}
+use Rattle.steps.proofs.StepLaws.{step-word, turnRows, number-here, leaves-here, rows-5, rows-9, rows-turn, after-turn}
 
 refused-by : (k n : ℕ) → (k ≡ 0 → ⊥) → verdictOf k n ≡ refused k n
 refused-by zero n z = absurd (z refl)
@@ -146,13 +147,17 @@ module _ (text ks xs ys : List ℕ) (entries : ℕ) (s : State) (v : Ready text 
 
       -- with a goal open, on which the line turns
       module _ (some : s .open ≡ 0 → ⊥) (u : Turn) (d : TurnAt T entries l (s .goal) (s .open - 1) u) where
-        -- the line's turn at the current goal x, with those of hs waiting
-        turn-here : (x : Goal) (hs : List Goal) → s .open ≡ suc (length hs) → Shows (s .goal) x → Turned T entries l x (records (s .goal)) (length hs) u
-        turn-here x hs q c = let b : s .open - 1 ≡ length hs = omega arith in subst (λ (k : ℕ). Turned T entries l x (records (s .goal)) k u) b (d .turned x c)
+        -- those that wait are one less than those that are open
+        turn-here : (hs : List Goal) → s .open ≡ suc (length hs) → TurnAt T entries l (s .goal) (length hs) u
+        turn-here hs q = let b : s .open - 1 ≡ length hs = omega arith in subst (λ (k : ℕ). TurnAt T entries l (s .goal) k u) b d
+
+        -- the line's rows at the current goal x
+        turned : (x : Goal) (hs : List Goal) → s .open ≡ suc (length hs) → Shows (s .goal) x → u .number ≡ refusal (turnRows T entries l x (length hs))
+        turned x hs q c = number-here T entries l (s .goal) (length hs) u (turn-here hs q) x c
 
         rows-here : (cs : List Sided) (x : Goal) (hs : List Goal) → s .open ≡ suc (length hs) → Shows (s .goal) x → refusal (rows (inSteps T cs (s .steps) (x ∷ hs)) (saying l)) ≡ u .number
         rows-here cs x hs q c =
-            rows-turn T entries long-table (v .columns .few) l t (word .0) (word .1) cs (s .steps) x hs (lt-ltb (s .steps) 1024 room) ∙ sym (turn-here x hs q c .number)
+            rows-turn T entries long-table (v .columns .few) l t (word .0) (word .1) cs (s .steps) x hs (lt-ltb (s .steps) 1024 room) ∙ sym (turned x hs q c)
 
         stops-turn : (k : ℕ) → u .number ≡ suc k → Acted text ks xs ys entries s (stoppedOf s (suc k) (s .lines + 1))
         stops-turn k z = refuses (suc k) (λ (e : suc k ≡ 0). omega arith) go
@@ -173,13 +178,12 @@ module _ (text ks xs ys : List ℕ) (entries : ℕ) (s : State) (v : Ready text 
           passes : (cs : List Sided) (x : Goal) (hs : List Goal) → s .open ≡ suc (length hs) → Shows (s .goal) x
               → whole cs (x ∷ hs) ≡ behind-line cs (premises (plan T (stepIn l)) x ++ hs)
           passes cs x hs q c =
-              let r = turn-here x hs q c in
               judge-next text (s .at) 2 (s .lines) (inSteps T cs (s .steps) (x ∷ hs)) refl l to f (rows-here cs x hs q c ∙ z)
-              ∙ ap (λ S. judge (suc (s .lines)) S (linesOf (drop to text))) (after-turn T entries long-table (v .columns .few) l t (word .0) (word .1) cs (s .steps) x hs (length hs) (sym (r .number) ∙ z))
+              ∙ ap (λ S. judge (suc (s .lines)) S (linesOf (drop to text))) (after-turn T entries long-table (v .columns .few) l t (word .0) (word .1) cs (s .steps) x hs (length hs) (sym (turned x hs q c) ∙ z))
               ∙ ap₂ (λ k j. judge k (inSteps T cs j (premises (plan T (stepIn l)) x ++ hs)) (linesOf (drop to text))) (sym (add-one (s .lines))) (sym (add-one (s .steps)))
 
           leaves : (x : Goal) (hs : List Goal) → s .open ≡ suc (length hs) → Shows (s .goal) x → Leaves (records (s .goal)) u (premises (plan T (stepIn l)) x)
-          leaves x hs q c = turn-here x hs q c .leaves z
+          leaves x hs q c = leaves-here T entries l (s .goal) (length hs) u (turn-here hs q) x c z
 
           -- another goal, other counts and another count of open goals, behind the line
           again : (g : Records) (counts : List ℕ) (n : ℕ) → g .count ≤ 64 → length counts ≡ 16 → ((i : ℕ) → getD counts i 0 ≤ 64) → n ≤ 17

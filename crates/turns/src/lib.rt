@@ -9,16 +9,14 @@ ghost use mathlib.Core.Path.{_≡_};
 ghost use mathlib.Core.List.{List, [], _++_};
 ghost use Prim.Native.Nat.{_+_, _-_, _<_, _≤_};
 ghost use lib.ListN.{length, getD};
-ghost use mathlib.Core.Bool.{not};
 ghost use lib.Dec.{leb};
 ghost use Rattle.alc.specs.Rows.{refusal};
 ghost use Rattle.alc.specs.Lists.{any, every, firstAt};
-ghost use Rattle.alc.specs.Shown.{records, kindAt, Shows as ShowsGoal};
+ghost use Rattle.alc.specs.Shown.{records, kindAt};
 ghost use Rattle.alc.specs.declared.Claim.{Claim as Record};
-ghost use Rattle.alc.specs.Claims.{Sided};
 ghost use Rattle.alc.specs.Table.{Table, entry, entryOf};
 ghost use Rattle.alc.specs.Rules.{plan};
-ghost use Rattle.goals.specs.Records.{sameRecord, hasName, keeping, stepOf, asks, upTo, newsBy, added, recordRows, cutAt, premiseAt, Makes, Turns};
+ghost use Rattle.goals.specs.Records.{sameRecord, keeping, stepOf, asks, upTo, newsBy, added, ruling, rulingBy, newIn, keptBy, recordRows, cutAt, premiseAt, Makes, Turns};
 
 // Whether the entry is of the kind that the plan asks.
 fn asked(p: Plan, kind: u8) -> bool
@@ -51,7 +49,7 @@ fn needed(g: Goal, p: Plan, at: usize) -> bool
 // Whether the name that must be new stands nowhere in the goal.
 fn is_new(g: Goal, p: Plan) -> bool
     requires { ⌜ g .count ≤ 64 ⌝ }
-    ensures { λ r. ⌜ r ≡ every (λ a. not (any (hasName a) (records g))) (newsBy (p .fresh) (p .name .0)) ⌝ }
+    ensures { λ r. ⌜ r ≡ newIn (newsBy (p .fresh) (p .name .0)) (records g) ⌝ }
 {
     let fresh = p.fresh;
     if fresh {
@@ -115,7 +113,7 @@ fn open(p: Plan) -> usize
 // all.
 fn refused(g: Goal, p: Plan, at: usize, n: usize, kind: u8, waiting: usize) -> u8
     requires { ⌜ (g .count ≤ 64) × (at ≡ firstAt (sameRecord (p .need)) (records g)) × (kind < 8) × (waiting ≤ 16) ⌝ }
-    ensures { λ r. ⌜ ((k : List Record) → length k ≡ n → r ≡ refusal (recordRows kind p (records g) k waiting)) ⌝ }
+    ensures { λ r. ⌜ (length (keptBy (rulingBy (kindAt kind) p) (records g)) ≡ n → r ≡ refusal (recordRows (rulingBy (kindAt kind) p) (records g) waiting)) ⌝ }
 {
     if !asked(p, kind) {
         return 6;
@@ -138,7 +136,7 @@ fn refused(g: Goal, p: Plan, at: usize, n: usize, kind: u8, waiting: usize) -> u
 // One step at the goal g, at the entry of its second field, with so many goals waiting.
 pub fn turn_of(g: Goal, s: Step, e: Entry, waiting: usize) -> Turn
     requires { ⌜ (g .count ≤ 64) × (s .rule < 19) × (e .kind < 8) × (waiting ≤ 16) ⌝ }
-    ensures { λ r. ⌜ (((T : Table) (cs : List Sided) → entry T (s .y) ≡ entryOf (kindAt (e .kind)) (e .x) (e .y) → ShowsGoal g cs → Turns (plan T (stepOf (s .rule) (s .x) (s .y) (s .z))) cs (records g) waiting r) × (r .number ≡ 0 → Makes r g × (r .opens + waiting ≤ 17)) × (r .opens ≤ 2)) ⌝ }
+    ensures { λ r. ⌜ (((T : Table) → entry T (s .y) ≡ entryOf (kindAt (e .kind)) (e .x) (e .y) → Turns [] (ruling (plan T (stepOf (s .rule) (s .x) (s .y) (s .z)))) (records g) waiting r) × (r .number ≡ 0 → Makes r g × (r .opens + waiting ≤ 17)) × (r .opens ≤ 2)) ⌝ }
 {
     let p = rules::plan_of(s, e);
     let found = goals::find(g, p.need);

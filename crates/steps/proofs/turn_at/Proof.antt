@@ -1,6 +1,7 @@
 -- `steps::turn_at` meets its contract: the ranges are the first row, and the others are those of the rule, at the entry of the table.
 -- Assumes nothing.
 use Prim.Native.Nat.{ℕ}
+use mathlib.Core.List.{[]}
 use mathlib.Core.Path.{_≡_, refl, sym, ap, subst, _∙_}
 use native.Mathlib.Omega.{arith}
 use denote.Ref.{now}
@@ -9,7 +10,7 @@ use borrow.Author.Tests.{not-true, not-false}
 use Rattle.goals.specs.declared.Step.{Step}
 use Rattle.alc.specs.Table.{Table}
 use Rattle.alc.specs.Rules.{plan}
-use Rattle.goals.specs.Records.{stepOf, Turns}
+use Rattle.goals.specs.Records.{stepOf, ruling, Turns}
 use Rattle.alc.specs.Shown.{tableOf, records}
 use Rattle.steps.proofs.StepLaws.{turned-3, turned}
 use Rattle.steps.proofs.turn_at.Statement.{statement}
@@ -26,7 +27,7 @@ returns : tie.Need-returns
 returns c =
     let t = c .before in
     record {
-      turned = λ cs h. turned-3 _ _ _ cs _ _ _ (sym (t .before .ranged .ensures) ∙ not-true _ (t .if1 .taken)) refl;
+      turned = turned-3 _ _ _ _ _ _ (sym (t .before .ranged .ensures) ∙ not-true _ (t .if1 .taken)) refl;
       makes = λ (e : _≡_ {A = ℕ} 3 0). absurd (omega arith);
       few = omega arith;
     }
@@ -53,10 +54,9 @@ returns-2 c =
     let s = r .before .before .before .before in
     let t = c .turn-of .ensures in
     record {
-      turned = λ cs h.
-          turned (T s) _ _ cs _ _ _ (sym (r .ranged .ensures) ∙ not-false _ (m .before .if1 .left))
-          (subst (λ (q : Step). Turns (plan (T s) (stepOf (q .rule) (q .x) (q .y) (q .z))) cs (records (s .args .g)) (s .args .waiting) (c .turn-of .result)) (m .made-step .ensures)
-          (t .0 (T s) cs (c .before .entry-at .ensures .0) h));
+      turned = turned _ _ _ _ _ _ (sym (r .ranged .ensures) ∙ not-false _ (m .before .if1 .left))
+          (subst (λ (q : Step). Turns [] (ruling (plan (T s) (stepOf (q .rule) (q .x) (q .y) (q .z)))) (records (s .args .g)) (s .args .waiting) (c .turn-of .result)) (m .made-step .ensures)
+          (t .0 (T s) (c .before .entry-at .ensures .0)));
       makes = t .1;
       few = t .2;
     }

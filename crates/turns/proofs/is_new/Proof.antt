@@ -2,9 +2,7 @@
 use mathlib.Core.Bool.{not}
 use mathlib.Core.Path.{ap, _∙_}
 use borrow.Author.Needs.{needs}
-use Rattle.alc.specs.Lists.{any}
 use Rattle.alc.specs.Shown.{records}
-use Rattle.goals.specs.Records.{hasName}
 use Rattle.goals.proofs.RecordLaws.{news-asked}
 use Rattle.turns.proofs.is_new.Statement.{statement}
 use Rattle.turns.proofs.is_new.Tie as tie
@@ -15,7 +13,7 @@ occurs-requires c κs = search needs
 returns : tie.Need-returns
 returns c =
     let s = c .before .before in
-    ap not (c .occurs .ensures) ∙ news-asked (λ a. not (any (hasName a) (records (s .args .g)))) _ _ (c .before .if1 .taken)
+    ap not (c .occurs .ensures) ∙ news-asked (records (s .args .g)) _ _ (c .before .if1 .taken)
 
 returns-2 : tie.Need-returns-2
 returns-2 c = search needs

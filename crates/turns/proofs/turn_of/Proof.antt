@@ -1,17 +1,17 @@
--- `turns::turn_of` meets its contract: the rows at the records are those at the claims, and so are the premises. Assumes nothing.
+-- `turns::turn_of` meets its contract: its rows are those of the plan that it makes, which is the rule's at every table that has the entry; and so are
+-- what its premises keep and what comes. Assumes nothing.
 use Prim.Native.Nat.{ℕ, _+_, _-_}
-use mathlib.Core.Path.{_≡_, sym, ap, subst, _∙_}
+use mathlib.Core.Path.{_≡_, sym, ap, _∙_}
 use native.Mathlib.Omega.{arith}
 use lib.ListN.{length}
 use borrow.Author.Needs.{needs}
-use Rattle.alc.specs.Table.{Kind, Table, Entry, entry, entryOf}
+use Rattle.alc.specs.Table.{Table, Entry, entry, entryOf}
 use Rattle.alc.specs.Rows.{refusal}
 use Rattle.alc.specs.Rules.{plan}
-use Rattle.alc.specs.Goals.{premises}
 use Rattle.alc.specs.Shown.{kindAt, records}
-use Rattle.goals.specs.Records.{sameRecord, stepOf, keeping, upTo, cutAt, recordRows, Plans}
+use Rattle.goals.specs.Records.{sameRecord, stepOf, Ruling, ruling, rulingBy, keptBy, recordRows, cutAt}
 use Rattle.goals.proofs.RecordLaws.{few-open, first-most, cut-length, records-length}
-use Rattle.goals.proofs.Steps.{held-rows, held-premise, open-shown, all-small, all-open, leaves-of}
+use Rattle.goals.proofs.Steps.{all-small, all-open}
 use Rattle.turns.proofs.turn_of.Statement.{statement}
 use Rattle.turns.proofs.turn_of.Tie as tie
 
@@ -31,7 +31,7 @@ L c = c .before
 
 cut : (c : tie.After-staying)
     → cutAt (L c .leaving .result) (records (S c .args .g))
-    ≡ keeping (L c .before .before .plan-of .result .drops) (upTo (L c .before .before .plan-of .result .needs) (L c .before .before .plan-of .result .need) (L c .before .before .plan-of .result .also)) (records (S c .args .g))
+    ≡ keptBy (rulingBy (kindAt (S c .args .e .kind)) (L c .before .before .plan-of .result)) (records (S c .args .g))
 cut c = L c .leaving .ensures .0 (records (S c .args .g)) (counted (S c)) (L c .before .find .ensures)
 
 size : (c : tie.After-staying) → length (cutAt (L c .leaving .result) (records (S c .args .g))) ≡ c .staying .result
@@ -41,12 +41,12 @@ size c =
     ∙ ap (λ (n : ℕ). L c .leaving .result + (n - (L c .leaving .result + 1))) (counted (S c))
     ∙ sym (c .staying .ensures h)
 
--- the plan, at a table that has the entry
+-- the plan at a table that has the entry
 planned : (c : tie.After-plan-of) (T : Table)
     → entry T (c .before .args .s .y) ≡ entryOf (kindAt (c .before .args .e .kind)) (c .before .args .e .x) (c .before .args .e .y)
-    → Plans (kindAt (c .before .args .e .kind)) (c .plan-of .result)
-    (plan T (stepOf (c .before .args .s .rule) (c .before .args .s .x) (c .before .args .s .y) (c .before .args .s .z)))
-planned c T h = subst (λ (k : Kind). Plans k (c .plan-of .result) (plan T (stepOf (c .before .args .s .rule) (c .before .args .s .x) (c .before .args .s .y) (c .before .args .s .z)))) (ap (λ (e : Entry). e .kind) h) (c .plan-of .ensures T h)
+    → rulingBy (kindAt (c .before .args .e .kind)) (c .plan-of .result)
+    ≡ ruling (plan T (stepOf (c .before .args .s .rule) (c .before .args .s .x) (c .before .args .s .y) (c .before .args .s .z)))
+planned c T h = ap (λ (e : Entry). rulingBy (e .kind) (c .plan-of .result)) (sym h) ∙ c .plan-of .ensures T h .is
 
 returns : tie.Need-returns
 returns c =
@@ -55,24 +55,23 @@ returns c =
     let s = S k in
     let pl = L k .before .before in
     let p = pl .plan-of .result in
-    let kind = s .args .e .kind in
-    let rows : r .refused .result ≡ refusal (recordRows kind p (records (s .args .g)) (cutAt (L k .leaving .result) (records (s .args .g))) (s .args .waiting)) = r .refused .ensures _ (size k) in (
-      (λ T cs h sh.
-          let q = plan T (stepOf (s .args .s .rule) (s .args .s .x) (s .args .s .y) (s .args .s .z)) in
-          let n : c .«open» .result ≡ length (premises q cs) = c .«open» .ensures ∙ open-shown kind _ _ (planned pl T h) cs in
+    let u = rulingBy (kindAt (s .args .e .kind)) p in
+    let l = records (s .args .g) in
+    let rows : r .refused .result ≡ refusal (recordRows u l (s .args .waiting)) = r .refused .ensures (ap length (sym (cut k)) ∙ size k) in (
+      (λ T h.
+          let q = planned pl T h in
           record {
-            number = rows ∙ held-rows kind _ _ (planned pl T h) cs _ _ sh (cut k) (s .args .waiting);
-            leaves = λ e. leaves-of (records (s .args .g)) _ (premises q cs) n (omega (arith, n, c .«open» .ensures, few-open (p .leaves) (p .first) (p .second)))
-                (λ i l. held-premise kind _ _ (planned pl T h) cs _ _ sh (cut k) i l);
+            number = rows ∙ ap (λ (v : Ruling). refusal (recordRows v l (s .args .waiting))) q;
+            leaves = λ e. (cut k ∙ ap (λ (v : Ruling). keptBy v l) q, ap (λ (v : Ruling). v .comes) q);
           }),
       (λ e. (
         record {
           place = L k .leaving .ensures .1;
           kept = k .staying .ensures (L k .leaving .ensures .1);
-          room = all-small _ _ _ _ _ (sym rows ∙ e);
+          room = rw (cut k) (all-small u l _ (sym rows ∙ e));
           opens = c .«open» .ensures;
         },
-        omega (arith, c .«open» .ensures, all-open _ _ _ _ _ (sym rows ∙ e)),
+        omega (arith, c .«open» .ensures, all-open u l _ (sym rows ∙ e)),
       )),
       omega (arith, c .«open» .ensures, few-open (p .leaves) (p .first) (p .second)),
     )
