@@ -1,7 +1,7 @@
 -- `turns::needed` meets its contract: none, the first, or both of the plan's claims are looked for, and the first is there exactly if it is found
 -- before the goal's end. Assumes nothing.
 use Prim.Native.Nat.{ℕ}
-use mathlib.Core.Path.{_≡_, sym, ap, ap₂, _∙_}
+use mathlib.Core.Path.{_≡_, sym, ap₂, _∙_}
 use lib.Dec.{ltb}
 use borrow.Author.Needs.{needs}
 use borrow.Author.Tests.{lt-ltb, le-ltb}
