@@ -13,8 +13,8 @@ use Rattle.alc.specs.Shown.{records, recordOf, Shows, blank, tableOf}
 use Rattle.alc.specs.Verdict.{Verdict}
 use Rattle.alc.specs.declared.Claim.{Claim as Record}
 use Rattle.alc.specs.declared.Goal.{Goal as Records}
-use Rattle.room.specs.Stored.{blanks, stored, fetched, goalOf}
-use Rattle.room.proofs.Back.{copied-else, copied-same, fetched-stored}
+use Rattle.shelf.specs.Stored.{blanks, stored, fetched, goalOf}
+use Rattle.shelf.proofs.Back.{copied-else, copied-same, fetched-stored}
 use Rattle.states.specs.Standing.{secondOf, After, Aside}
 use Rattle.states.specs.declared.State.{State}
 use Rattle.states.specs.declared.Act.{Act}

@@ -10,7 +10,7 @@ use Rattle.alc.specs.Claims.{Sided, Goal}
 use Rattle.alc.specs.Shown.{Shows, tableOf}
 use Rattle.alc.specs.Verdict.{Verdict}
 use Rattle.alc.specs.declared.Claim.{Claim as Record}
-use Rattle.room.specs.Stored.{fetched, goalOf}
+use Rattle.shelf.specs.Stored.{fetched, goalOf}
 use Rattle.states.specs.Standing.{verdictIn}
 use Rattle.states.specs.declared.State.{State}
 use Rattle.steps.specs.Acting.{Ready, Current, from}

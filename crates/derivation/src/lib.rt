@@ -79,11 +79,11 @@ fn step(
     let k = kind_of(a);
     if k == 1 {
         let next = states::after(s, a);
-        room::store(room, base_of(a), states::aside(next, a));
+        shelf::store(room, base_of(a), states::aside(next, a));
         return next;
     }
     if k == 2 {
-        let goal = room::fetch(room, base_of(a), count_of(a));
+        let goal = shelf::fetch(room, base_of(a), count_of(a));
         return states::behind(s, a, goal);
     }
     states::after(s, a)

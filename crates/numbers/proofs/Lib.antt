@@ -1,3 +1,2 @@
--- `Digits` of a number read digit by digit, `Fields` of the numbers behind a word.
-pub mod Digits
+-- `Fields` of the numbers behind a word.
 pub mod Fields

@@ -4,21 +4,13 @@ use mathlib.Core.List.{List, []}
 use mathlib.Core.Bool.{Bool, true, false, cond, _&&_}
 use lib.ListN.{length, getD, drop}
 use lib.Dec.{eqb}
-use Rattle.lines.specs.Text.{value, isNumber, numbered}
+use Rattle.lines.specs.Text.{value, numbered}
 use Rattle.lines.specs.Walk.{fieldOf, lineOf, ended, opens, fieldsBehind}
-use Rattle.numbers.specs.declared.Num.{Num}
-use Rattle.numbers.specs.declared.Num.the-variants.{Is, Not}
+use Rattle.digits.specs.Number.{numberIn}
+use Rattle.digits.specs.declared.Num.{Num}
+use Rattle.digits.specs.declared.Num.the-variants.{Not}
 use Rattle.numbers.specs.declared.Nums.{Nums}
 use Rattle.numbers.specs.declared.Nums.the-variants.{Are, Not as NotAll}
-
--- a field of this value that ends there, if it is a number
-abbrev pub numBy : Bool → ℕ → ℕ → Num
-numBy true v next = Is v next
-numBy false v next = Not
-
--- the field that xs begins with as a number, and where it ends, if xs begins at `at`
-unfoldable pub numberIn : ℕ → List ℕ → Num
-numberIn at xs = numBy (isNumber (fieldOf xs)) (value (fieldOf xs)) (at + length (fieldOf xs))
 
 -- the values of these fields, with the position behind the line, if it is well formed
 abbrev pub numsBy : Bool → List (List ℕ) → ℕ → Nums

@@ -1,16 +1,16 @@
 // The line that begins at a position of a text. `read` says what stands there: a line that is well formed and allowed at its place, as the
 // number of its word, its side, its numbers and the position behind it; a line that is not; or the end of the text.
 // A line is read in one pass over its bytes, plus the comparison of its word. No text is copied.
+use digits::holds;
+use digits::parts;
 use lines::Line;
 use lines::Next;
 use lines::WORDS;
 use lines::count;
 use lines::same;
-use lines::word;
 use numbers::Nums;
-use numbers::holds;
 use numbers::numbers;
-use numbers::parts;
+use words::word;
 ghost use mathlib.Core.Path.{_≡_};
 ghost use Prim.Native.Nat.{_+_, _≤_, _<_};
 ghost use lib.ListN.{length, drop};

@@ -2,7 +2,7 @@
 -- seven bytes of plain data, so a place in the room lies seven times its number on; the rules hold at any such type. Assumes nothing.
 use mathlib.Core.Path.{_≡_, refl}
 use mathlib.Core.List.{[], _∷_}
-use Prim.Native.Nat.{ℕ, _<_, _≤_, _+_}
+use Prim.Native.Nat.{ℕ, _<_}
 use lib.ListN.{length, set, getD, replicate}
 use lib.Dec.{lit<}
 use mir.Syntax.{Ty, Lifetime, tyArray, tyInt, named, erased, w64}
@@ -42,8 +42,7 @@ use Rattle.alc.proofs.Goal as GT
 use Rattle.alc.proofs.Goal.Laws as GT′
 use Rattle.alc.specs.Shown.{blank}
 use Rattle.room.proofs.Says.{Con}
-use Rattle.room.proofs.Walk.{ev, W, TellsIs, Data, Elem, mirOf, ref, refS, copied as copies-of, let-go, ptr-of, len-of, slice-of, len-owed, ptr-ofS, slice-ofS, slice-goneS, struct-read, struct-is, array-full, array-gone}
-use Rattle.room.specs.Stored.{copied, stored, fetched, goalOf}
+use Rattle.room.proofs.Walk.{ev, W, TellsIs, Data, Elem, mirOf, ref, refS, copied, let-go, ptr-of, len-of, slice-of, len-owed, ptr-ofS, slice-ofS, slice-goneS, struct-read, struct-is, array-full, array-gone}
 
 -- ---- types
 abbrev pub num : Sc
@@ -96,13 +95,13 @@ roomP = pMutS T.the-row 0 tt
 -- ---- what `search` needs
 module _ (w : World) where
   pub claim-copied : Yields (w .𝓤) (w .H) (w .𝓖 .A) (λ ρ. Unit {0}) (mirOf claim) (whole T.the-row) (whole T.the-row) T.the-row (λ x. x) (λ x. x)
-  claim-copied = copies-of w claim
+  claim-copied = copied w claim
 
   pub claim-gone : ToRoom (w .𝓤) (w .H) (w .𝓖 .A) (whole T.the-row) (mirOf claim)
   claim-gone = let-go w claim
 
   pub goal-copied : Yields (w .𝓤) (w .H) (w .𝓖 .A) (λ ρ. Unit {0}) (mirOf goal) (whole GT.the-row) (whole GT.the-row) GT.the-row (λ x. x) (λ x. x)
-  goal-copied = copies-of w goal
+  goal-copied = copied w goal
 
   pub goal-gone : ToRoom (w .𝓤) (w .H) (w .𝓖 .A) (whole GT.the-row) (mirOf goal)
   goal-gone = let-go w goal
@@ -178,16 +177,6 @@ get = record {
   post = λ κs a z e. (z ≡ getD (a .0 .now) (a .1 .0) blank) ∷ [];
 }
 
-abbrev pub copy : Con
-copy = record {
-  name = "room::copy";
-  n = 2;
-  ps = pMutS T.the-row 0 tt ∷ pNum w64 ∷ pShrS T.the-row 1 tt ∷ pNum w64 ∷ pNum w64 ∷ [];
-  r = rUnit;
-  pre = λ κs a. ((a .1 .0 + a .1 .1 .1 .1 .0 ≤ length (a .0 .now)) × (a .1 .1 .1 .0 + a .1 .1 .1 .1 .0 ≤ length (a .1 .1 .0 .now))) ∷ [];
-  post = λ κs a z e. (e .0 .now ≡ copied (a .0 .now) (a .1 .0) (a .1 .1 .0 .now) (a .1 .1 .1 .0) (a .1 .1 .1 .1 .0)) ∷ [];
-}
-
 abbrev pub blank-all : Con
 blank-all = record {
   name = "room::blank_all";
@@ -196,24 +185,4 @@ blank-all = record {
   r = rUnit;
   pre = λ κs a. [];
   post = λ κs a z e. (e .0 .now ≡ replicate (length (a .0 .now)) blank) ∷ [];
-}
-
-abbrev pub store : Con
-store = record {
-  name = "room::store";
-  n = 1;
-  ps = roomP ∷ pNum w64 ∷ goalP ∷ [];
-  r = rUnit;
-  pre = λ κs a. ((a .1 .1 .0 .count ≤ 64) × (a .1 .0 + a .1 .1 .0 .count ≤ length (a .0 .now))) ∷ [];
-  post = λ κs a z e. (e .0 .now ≡ stored (a .0 .now) (a .1 .0) (a .1 .1 .0 .claims) (a .1 .1 .0 .count)) ∷ [];
-}
-
-abbrev pub fetch : Con
-fetch = record {
-  name = "room::fetch";
-  n = 1;
-  ps = pShrS T.the-row 0 tt ∷ pNum w64 ∷ pNum w64 ∷ [];
-  r = goalR;
-  pre = λ κs a. ((a .1 .1 .0 ≤ 64) × (a .1 .0 + a .1 .1 .0 ≤ length (a .0 .now))) ∷ [];
-  post = λ κs a z e. (z ≡ goalOf (fetched (a .0 .now) (a .1 .0) (a .1 .1 .0)) (a .1 .1 .0)) ∷ [];
 }

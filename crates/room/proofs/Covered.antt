@@ -1,5 +1,5 @@
--- The functions by value that the functions over the room call, as a caller takes them. Each is known by
--- its own theorem, which Rattle's modules of it state. Assumes nothing.
+-- The function by value that a function over the room calls, as a caller takes it. It is known by its own theorem, which Rattle's modules of it
+-- state. Assumes nothing.
 use mathlib.Core.Path.{_≡_}
 use prog.Routine.{Env}
 use borrow.Fn.World.{World}
@@ -11,21 +11,3 @@ blank-claim = record { name = P.blank_claim.Symbol.name; n = 0; ps = P.blank_cla
 
 pub blank-claim! : (w : World) (γ : Env) → γ P.blank_claim.Symbol.name ≡ P.blank_claim.Symbol.routine → Knows blank-claim w γ
 blank-claim! w γ e = P.blank_claim.Reads.known w γ P.blank_claim.Symbol.name P.blank_claim.Symbol.routine e (P.blank_claim.Met.met (w .𝓤) (w .H) (w .𝓜) (w .𝓖) (w .𝓡))
-
-abbrev pub claims-of : Fun!
-claims-of = record { name = P.claims_of.Symbol.name; n = 0; ps = P.claims_of.Kinds.ps; r = P.claims_of.Kinds.r; P = P.claims_of.Reads.Asked; Q = P.claims_of.Reads.Learnt }
-
-pub claims-of! : (w : World) (γ : Env) → γ P.claims_of.Symbol.name ≡ P.claims_of.Symbol.routine → Knows claims-of w γ
-claims-of! w γ e = P.claims_of.Reads.known w γ P.claims_of.Symbol.name P.claims_of.Symbol.routine e (P.claims_of.Met.met (w .𝓤) (w .H) (w .𝓜) (w .𝓖) (w .𝓡))
-
-abbrev pub count-of : Fun!
-count-of = record { name = P.count_of.Symbol.name; n = 0; ps = P.count_of.Kinds.ps; r = P.count_of.Kinds.r; P = P.count_of.Reads.Asked; Q = P.count_of.Reads.Learnt }
-
-pub count-of! : (w : World) (γ : Env) → γ P.count_of.Symbol.name ≡ P.count_of.Symbol.routine → Knows count-of w γ
-count-of! w γ e = P.count_of.Reads.known w γ P.count_of.Symbol.name P.count_of.Symbol.routine e (P.count_of.Met.met (w .𝓤) (w .H) (w .𝓜) (w .𝓖) (w .𝓡))
-
-abbrev pub goal-of : Fun!
-goal-of = record { name = P.goal_of.Symbol.name; n = 0; ps = P.goal_of.Kinds.ps; r = P.goal_of.Kinds.r; P = P.goal_of.Reads.Asked; Q = P.goal_of.Reads.Learnt }
-
-pub goal-of! : (w : World) (γ : Env) → γ P.goal_of.Symbol.name ≡ P.goal_of.Symbol.routine → Knows goal-of w γ
-goal-of! w γ e = P.goal_of.Reads.known w γ P.goal_of.Symbol.name P.goal_of.Symbol.routine e (P.goal_of.Met.met (w .𝓤) (w .H) (w .𝓜) (w .𝓖) (w .𝓡))

@@ -12,12 +12,13 @@ use borrow.Fn.Args.{vAt}
 use borrow.Fn.World.{World}
 use borrow.Rule.Scalar.{oAt, oInt}
 use borrow.Table.Row.{sBool, sUnit, lease, valS}
-use Rattle.room.proofs as R
 use Rattle.room.proofs.Says.{fun, Knows, knows}
 use Rattle.room.proofs.Walk.{used, Body!, Asks!, proved, same-len, tts, ref, refS, _▸_, _▹_, calcs, copies, clears, returns, joins, conds, skips, lends, calls, backs, shares, unshares}
 use Rattle.room.proofs.Claims as RC
 use Rattle.room.proofs.Claims.{claim, num}
-use Rattle.room.specs.Stored.{stored, fetched, goalOf}
+use Rattle.shelf.proofs as S
+use Rattle.shelf.proofs.Goals as SC
+use Rattle.shelf.specs.Stored.{stored, fetched, goalOf}
 use Rattle.alc.specs.declared.Claim.{Claim}
 use Rattle.alc.specs.declared.Goal.{Goal}
 use Rattle.states.specs.Standing.{afterOf, After, Aside}
@@ -67,7 +68,7 @@ module _ (text ks xs ys : List ℕ) (entries : ℕ) (l : List Claim) (s : State)
     resting : (a .kind ≡ 1 → ⊥) → (a .kind ≡ 2 → ⊥) → Stepped text ks xs ys entries l s l n
     resting not1 not2 = rests text ks xs ys entries l s (pre .0) (pre .1) a n there not1 not2
 
-module _ (w : World) (store : Knows (fun RC.store) w code.env) (fetch : Knows (fun RC.fetch) w code.env) (act-at : Knows F.act-at w code.env) (kind-of : Knows F.kind-of w code.env) (after : Knows F.after w code.env) (base-of : Knows F.base-of w code.env) (aside : Knows F.aside w code.env) (count-of : Knows F.count-of w code.env) (behind : Knows F.behind w code.env) where
+module _ (w : World) (store : Knows (fun SC.store) w code.env) (fetch : Knows (fun SC.fetch) w code.env) (act-at : Knows F.act-at w code.env) (kind-of : Knows F.kind-of w code.env) (after : Knows F.after w code.env) (base-of : Knows F.base-of w code.env) (aside : Knows F.aside w code.env) (count-of : Knows F.count-of w code.env) (behind : Knows F.behind w code.env) where
   unfoldable body : Body! C.step 1 code.function w code.env
   body κs qs bs =
       calls F.act-at act-at 8 (1 ∷ 2 ∷ 3 ∷ 4 ∷ []) (record { pos = 2; ty = τ 1; ref = λ x. x }, (record { pos = 3; ty = τ 2; ref = λ x. x }, (record { pos = 4; ty = τ 3; ref = λ x. x }, (record { pos = 5; ty = τ 4; ref = λ x. x }, (vAt 6 (λ x. x), (record { pos = 7; st = []; d = 0; at = λ x. x }, tt)))))) (search rules, search rules, refl, (search rules, search rules, refl, (search rules, search rules, refl, (search rules, search rules, refl, (search rules, (search rules, tt)))))) (search rules) ▸
@@ -78,7 +79,7 @@ module _ (w : World) (store : Knows (fun RC.store) w code.env) (fetch : Knows (f
       lends (claim .R) 1 14 15 0 5 (named 0) (lease (κs .0) (qs .0)) (λ x. x) (λ x. x) (λ x. x) (tts 22) (search rules) (search rules) (
       calls F.base-of base-of 16 [] (record { pos = 8; st = []; d = 0; at = λ x. x }, tt) (search rules) (search rules) ▸
       calls F.aside aside 17 [] (record { pos = 10; st = []; d = 0; at = λ x. x }, (record { pos = 8; st = []; d = 0; at = λ x. x }, tt)) (search rules, (search rules, tt)) (search rules) ▸
-      calls (fun RC.store) store 13 (5 ∷ []) (record { pos = 15; ty = ref (claim .R) erased; ref = λ x. x }, (vAt 16 (λ x. x), (record { pos = 17; st = []; d = 0; at = λ x. x }, tt))) (search rules, search rules, refl, (search rules, (search rules, tt))) (search rules) ▸
+      calls (fun SC.store) store 13 (5 ∷ []) (record { pos = 15; ty = ref (claim .R) erased; ref = λ x. x }, (vAt 16 (λ x. x), (record { pos = 17; st = []; d = 0; at = λ x. x }, tt))) (search rules, search rules, refl, (search rules, (search rules, tt))) (search rules) ▸
       backs (claim .R) 15 1 0 5 (named 0) (lease (κs .0) (qs .0)) (λ x. x) (λ x. x) (search rules) ▹
       copies state 10 0 (λ x. x) (λ x. x) (search rules) ▸
       clears (6 ∷ 7 ∷ 8 ∷ 9 ∷ []) (used w num, (C.state-gone w, (C.act-gone w, (used w byte, tt)))) (clears (10 ∷ 12 ∷ 13 ∷ []) (C.state-gone w, (used w sBool, (used w sUnit, tt))) (clears (16 ∷ 17 ∷ []) (used w num, (RC.goal-gone w, tt)) (
@@ -88,7 +89,7 @@ module _ (w : World) (store : Knows (fun RC.store) w code.env) (fetch : Knows (f
       shares (claim .R) 1 18 19 0 5 (named 0) (lease (κs .0) (qs .0)) (λ x. x) (λ x. x) (λ x. x) (tts 22) (search sharing) (search sharing) (
       calls F.base-of base-of 20 [] (record { pos = 8; st = []; d = 0; at = λ x. x }, tt) (search rules) (search rules) ▸
       calls F.count-of count-of 21 [] (record { pos = 8; st = []; d = 0; at = λ x. x }, tt) (search rules) (search rules) ▸
-      calls (fun RC.fetch) fetch 11 (5 ∷ []) (record { pos = 19; ty = refS (claim .R) erased; ref = λ x. x }, (vAt 20 (λ x. x), (vAt 21 (λ x. x), tt))) (search sharing, search sharing, refl, (search sharing, (search sharing, tt))) (search sharing) ▸
+      calls (fun SC.fetch) fetch 11 (5 ∷ []) (record { pos = 19; ty = refS (claim .R) erased; ref = λ x. x }, (vAt 20 (λ x. x), (vAt 21 (λ x. x), tt))) (search sharing, search sharing, refl, (search sharing, (search sharing, tt))) (search sharing) ▸
       clears (19 ∷ []) (RC.seen-gone w 5, tt) (
       unshares (claim .R) 1 0 5 (named 0) (lease (κs .0) (qs .0)) (λ x. x) (search sharing) ▹
       calls F.behind behind 0 [] (record { pos = 7; st = []; d = 0; at = λ x. x }, (record { pos = 8; st = []; d = 0; at = λ x. x }, (record { pos = 11; st = []; d = 0; at = λ x. x }, tt))) (search rules, (search rules, (search rules, tt))) (search rules) ▸
@@ -161,8 +162,8 @@ pub step-spec : {M : Type 1} → statement M
 unfolding code.routine tablesOf
 step-spec 𝓤 H 𝓜 𝓖 𝓡 =
     let w : World = record { M = _; 𝓤 = 𝓤; H = H; 𝓜 = 𝓜; 𝓖 = 𝓖; 𝓡 = 𝓡 } in
-    let store = knows RC.store w code.env R.store.Symbol.routine code.calls-room·store (R.store.Met.met 𝓤 H 𝓜 𝓖 𝓡) in
-    let fetch = knows RC.fetch w code.env R.fetch.Symbol.routine code.calls-room·fetch (R.fetch.Met.met 𝓤 H 𝓜 𝓖 𝓡) in
+    let store = knows SC.store w code.env S.store.Symbol.routine code.calls-shelf·store (S.store.Met.met 𝓤 H 𝓜 𝓖 𝓡) in
+    let fetch = knows SC.fetch w code.env S.fetch.Symbol.routine code.calls-shelf·fetch (S.fetch.Met.met 𝓤 H 𝓜 𝓖 𝓡) in
     let act-at = F.act-at! w code.env code.calls-steps·act-at in
     let kind-of = F.kind-of! w code.env code.calls-derivation·kind-of in
     let after = F.after! w code.env code.calls-states·after in

@@ -1,0 +1,2 @@
+-- `Digits` of a number read digit by digit.
+pub mod Digits

@@ -1,0 +1,71 @@
+-- `shelf::fetch` meets its contract: the room's records are copied into a goal's own, which are blank at first. Assumes nothing.
+use mathlib.Core.Path.{refl, sym, ap, _∙_}
+use mathlib.Core.List.{List, [], _∷_}
+use native.Mathlib.Omega.{arith}
+use lib.Dec.{lit<}
+use lib.ListN.{replicate, length-replicate}
+use mir.Syntax.{w64, named, erased}
+use mir.Val.{vint}
+use contract.Running.{tablesOf}
+use borrow.Fn.Args.{vAt, vLit}
+use borrow.Fn.World.{World}
+use borrow.Rule.Scalar.{oInt}
+use borrow.Table.Row.{sUnit}
+use Rattle.alc.proofs.Claim as T
+use Rattle.alc.proofs.Claim.Laws as T′
+use Rattle.room.proofs.Says.{fun, Knows, knows}
+use Rattle.room.proofs.Walk.{used, Body!, Asks!, proved, tts, ref, refS, _▸_, _▹_, copies-all, clears, returns, repeats, calls, lends-all, backs-all}
+use Rattle.shelf.proofs as P
+use Rattle.room.proofs.Covered as RF
+use Rattle.shelf.proofs.Covered as F
+use Rattle.room.proofs.Claims as RC
+use Rattle.shelf.proofs.Goals as C
+use Rattle.room.proofs.Claims.{num, claim, own}
+use Rattle.shelf.proofs.Stored.{blanks-are}
+use Rattle.shelf.proofs.fetch.Key.{name}
+use Rattle.shelf.proofs.fetch.Statement.{statement}
+use Rattle.shelf.proofs.fetch.Code as code
+use Rattle.alc.specs.declared.Claim.{Claim}
+use Rattle.shelf.specs.Stored.{copied, goalOf}
+
+module _ (w : World) (copy : Knows (fun C.copy) w code.env) (blank-claim : Knows RF.blank-claim w code.env) (goal-of : Knows F.goal-of w code.env) where
+  unfoldable body : Body! C.fetch 1 code.function w code.env
+  body κs qs bs =
+      calls RF.blank-claim blank-claim 4 [] tt (search own) (search own) ▸
+      repeats T.the-type T′.the-laws T′.the-copy T′.the-plain 64 4 5 (λ x. x) (λ x. x) (search own) ▸
+      lends-all (claim .R) 64 5 7 8 1 (λ x. x) (λ x. x) (oInt w64 64) (tts 10) (lit< tt, lit< tt) (search own) (search own) (
+      calls (fun C.copy) copy 6 (1 ∷ 0 ∷ []) (record { pos = 8; ty = ref (claim .R) erased; ref = λ x. x }, (vLit 0, (record { pos = 1; ty = refS (claim .R) (named 0); ref = λ x. x }, (vAt 2 (λ x. x), (vAt 3 (λ x. x), tt)))))
+      (search own, search own, refl, (search own, (search own, search own, refl, (search own, (search own, tt))))) (search own) ▸
+      backs-all (claim .R) 64 8 5 1 (λ x. x) (λ x. x) (search own) ▹
+      copies-all (claim .R) tt 64 5 9 (λ x. x) (λ x. x) (search own) ▸
+      calls F.goal-of goal-of 0 [] (record { pos = 9; st = []; d = 0; at = λ x. x }, (vAt 3 (λ x. x), tt)) ((RC.claims-copied w 64, refl), (search own, tt)) (search own) ▸
+      clears (2 ∷ 3 ∷ 4 ∷ 5 ∷ 6 ∷ 9 ∷ []) (used w num, (used w num, (RC.claim-gone w, (RC.claims-gone w 64, (used w sUnit, (RC.claims-gone w 64, tt)))))) (
+      returns tt))
+
+  met : Asks! C.fetch 1 code.function w code.env body
+  unfolding body
+  met κs qs (room, (base, (n, _))) good pre bs = (
+    λ _. tt,
+    λ c γ. (
+      ap (vint w64) (sym (length-replicate 64 (c .1))),
+      (
+        λ _. (omega (arith, pre .0, length-replicate 64 (c .1)), pre .1),
+        λ f. (
+          refl,
+          λ same. (
+            λ _. tt,
+            λ g. ((refl, (tt, (tt, tt))), g .5 ∙ ap (λ (l : List Claim). goalOf l n) (f .5 ∙ ap (λ (t : List Claim). copied t 0 (room .now) base n) (ap (replicate 64) (c .5) ∙ blanks-are))),
+          ),
+        ),
+      ),
+    ),
+  )
+
+pub fetch-spec : {M : Type 1} → statement M
+unfolding code.routine tablesOf
+fetch-spec 𝓤 H 𝓜 𝓖 𝓡 =
+    let w : World = record { M = _; 𝓤 = 𝓤; H = H; 𝓜 = 𝓜; 𝓖 = 𝓖; 𝓡 = 𝓡 } in
+    let copy = knows C.copy w code.env P.copy.Symbol.routine code.calls-shelf·copy (P.copy.Met.met 𝓤 H 𝓜 𝓖 𝓡) in
+    let blank-claim = RF.blank-claim! w code.env code.calls-room·blank-claim in
+    let goal-of = F.goal-of! w code.env code.calls-shelf·goal-of in
+    proved C.fetch 1 code.function w code.env name (code.unfolded 𝓤 H 𝓜 𝓡) (body w copy blank-claim goal-of) (met w copy blank-claim goal-of)
