@@ -8,7 +8,8 @@ use mathlib.Core.Path.{_≡_, refl, sym, ap, ap₂, subst, _∙_}
 use lib.Dec.{ltb, leb}
 use lib.ListN.{length, drop, length-append}
 use borrow.Author.Tests.{ltb-true, leb-true}
-use Rattle.lines.specs.Text.{words, rowOf, wordCount, stands as allowedAt, linesOf, readAt}
+use Rattle.lines.specs.Text.{words, rowOf, wordCount, stands as allowedAt, linesOf}
+use Rattle.lines.specs.Walk.{readAt}
 use Rattle.lines.specs.declared.Line.{Line}
 use Rattle.lines.specs.declared.Next.{Next}
 use Rattle.lines.specs.declared.Next.the-variants.{Found}

@@ -8,7 +8,8 @@ use mathlib.Core.List.{List, [], _∷_}
 use mathlib.Core.Logic.{_⊎_, inl, inr}
 use mathlib.Core.Path.{_≡_, refl, sym, ap, subst, _∙_}
 use lib.ListN.{length, drop}
-use Rattle.lines.specs.Text.{words, rowOf, cut, itemOf, fit, found, itemBy, nextOf, stands, linesOf, readAt}
+use Rattle.lines.specs.Text.{words, rowOf, cut, itemOf, fit, itemBy, stands, linesOf}
+use Rattle.lines.specs.Walk.{found, nextOf, readAt}
 use Rattle.lines.specs.declared.Line.{Line}
 use Rattle.lines.specs.declared.Item.{Item}
 use Rattle.lines.specs.declared.Item.the-variants.{Says, Wrong}

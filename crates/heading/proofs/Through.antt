@@ -10,7 +10,8 @@ use native.Mathlib.Numerals.{add-one}
 use lib.Dec.{eqb, leb}
 use lib.ListN.{length, getD, drop}
 use borrow.Author.Tests.{eqb-true, leb-true}
-use Rattle.lines.specs.Text.{words, rowOf, wordCount, allowed, linesOf, readAt}
+use Rattle.lines.specs.Text.{words, rowOf, wordCount, allowed, linesOf}
+use Rattle.lines.specs.Walk.{readAt}
 use Rattle.lines.specs.declared.Line.{Line}
 use Rattle.lines.specs.declared.Next.the-variants.{Found}
 use Rattle.lines.proofs.Words.{allowed-within}

@@ -6,7 +6,7 @@ use mathlib.Core.List.{List, [], _∷_}
 use mathlib.Core.Path.{_≡_}
 use lib.Dec.{eqb, ltb}
 use lib.ListN.{length, getD}
-use Rattle.lines.specs.Text.{readAt}
+use Rattle.lines.specs.Walk.{readAt}
 use Rattle.lines.specs.declared.Line.{Line}
 use Rattle.lines.specs.declared.Next.{Next}
 use Rattle.lines.specs.declared.Next.the-variants.{Found, Bad, End}

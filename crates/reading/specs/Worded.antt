@@ -4,7 +4,8 @@ use mathlib.Core.List.{List}
 use mathlib.Core.Path.{_≡_}
 use mathlib.Core.Bool.{cond}
 use lib.ListN.{length, take, drop}
-use Rattle.lines.specs.Text.{rowOf, wordOf, behindOf, allowed, readAt}
+use Rattle.lines.specs.Text.{rowOf, wordOf, behindOf, allowed}
+use Rattle.lines.specs.Walk.{readAt}
 use Rattle.lines.specs.declared.Next.{Next}
 use Rattle.lines.specs.declared.Next.the-variants.{Found, Bad}
 use Rattle.numbers.specs.Numbers.{numbersIn}

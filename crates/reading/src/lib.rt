@@ -14,8 +14,8 @@ use words::word;
 ghost use mathlib.Core.Path.{_≡_};
 ghost use Prim.Native.Nat.{_+_, _≤_, _<_};
 ghost use lib.ListN.{length, drop};
-ghost use Rattle.lines.specs.Text.{sideOf, readAt};
-ghost use Rattle.lines.specs.Walk.{fieldOf};
+ghost use Rattle.lines.specs.Text.{sideOf};
+ghost use Rattle.lines.specs.Walk.{fieldOf, readAt};
 ghost use Rattle.reading.specs.Worded.{wordedAt, WordAt};
 
 // A field: the bytes of a text from a position on, up to another.

@@ -10,7 +10,8 @@ use mathlib.Core.Path.{_≡_, refl, sym, ap, ap₂, subst, _∙_}
 use lib.ListN.{length, getD, set, drop, length-set}
 use lib.Seq.{getD-set-same, getD-set-other}
 use borrow.Author.Tests.{lt-ltb, le-ltb, eq-eqb, ne-eqb}
-use Rattle.lines.specs.Text.{linesOf, readAt}
+use Rattle.lines.specs.Text.{linesOf}
+use Rattle.lines.specs.Walk.{readAt}
 use Rattle.lines.specs.declared.Line.{Line}
 use Rattle.lines.specs.declared.Next.{Next as Read}
 use Rattle.lines.specs.declared.Next.the-variants.{Found, Bad, End}

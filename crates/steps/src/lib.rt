@@ -14,7 +14,7 @@ use states::Act;
 use states::State;
 ghost use mathlib.Core.Path.{_≡_};
 ghost use Prim.Native.Nat.{_-_, _<_, _≤_, _%_};
-ghost use Rattle.lines.specs.Text.{readAt};
+ghost use Rattle.lines.specs.Walk.{readAt};
 ghost use Rattle.alc.specs.Table.{entry, entryOf};
 ghost use Rattle.alc.specs.Shown.{kindAt, tableOf};
 ghost use Rattle.heading.specs.Parts.{Columns};

@@ -7,7 +7,7 @@ use native.Mathlib.Omega.{arith}
 use lib.ListN.{length}
 use denote.Ref.{now}
 use borrow.Author.Needs.{needs}
-use Rattle.lines.specs.Text.{readAt}
+use Rattle.lines.specs.Walk.{readAt}
 use Rattle.lines.specs.declared.Next.{Next}
 use Rattle.lines.specs.declared.Next.the-variants.{Found, Bad, End}
 use Rattle.reading.proofs.Loop.{Line-found, when-found}

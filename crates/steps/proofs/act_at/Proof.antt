@@ -4,7 +4,7 @@ use native.Mathlib.Omega.{arith}
 use mathlib.Core.Path.{_≡_, refl, sym, ap₂, subst, _∙_}
 use denote.Ref.{now}
 use borrow.Author.Needs.{needs}
-use Rattle.lines.specs.Text.{readAt}
+use Rattle.lines.specs.Walk.{readAt}
 use Rattle.lines.specs.declared.Next.{Next}
 use Rattle.reading.proofs.Loop.{when-found}
 use Rattle.alc.specs.Shown.{tableOf}

@@ -7,7 +7,7 @@ use mathlib.Core.List.{List}
 use lib.ListN.{length}
 use denote.Ref.{now}
 use borrow.Author.Needs.{needs}
-use Rattle.lines.specs.Text.{readAt}
+use Rattle.lines.specs.Walk.{readAt}
 use Rattle.lines.specs.declared.Next.the-variants.{Found}
 use Rattle.reading.proofs.Loop.{when-found}
 use Rattle.alc.specs.Rows.{refusal}
