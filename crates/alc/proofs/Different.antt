@@ -18,7 +18,8 @@ use Rattle.alc.specs.Claims.{Sided}
 use Rattle.alc.specs.Dossier.{Said, concept, claim, proof, model, step, size, fact, unread, sayings, saidBy}
 use Rattle.alc.specs.Reading.{GoodTable, Evidence, a-derivation, a-model, Reads}
 use Rattle.alc.proofs.Trees.{concepts, law, well-formed}
-use Rattle.alc.proofs.Numbered.{All-at, table-iff}
+use Rattle.alc.proofs.Numbered.{table-iff}
+use Rattle.alc.proofs.ListFacts.{All-at}
 
 -- WHAT A LINE DOES NOT SAY
 -- the line with 0 for what a line of its kind does not say

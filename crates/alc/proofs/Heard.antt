@@ -21,7 +21,7 @@ use Rattle.alc.specs.Verdict.{table, claims, steps, start, facts, State,
 use Rattle.alc.specs.Reading.{InTurn, InRange, GoodTable, GoodClaims, GoodSteps, GoodModel}
 use Rattle.alc.specs.Derivation.{Works, done, on}
 use Rattle.alc.specs.Refusal.{AllPassed}
-use Rattle.alc.proofs.Logic.{and-true}
+use Rattle.alc.proofs.Logic.{both-true}
 use Rattle.alc.proofs.ListFacts.{All-map, All-append, every-All}
 use Rattle.alc.proofs.Slides.{rule-of}
 use Rattle.alc.proofs.Derive.{works-append}
@@ -115,7 +115,7 @@ next (in-steps {T} {cs} {ss} {gs} t c g w) (a-step {s}) p =
     rw (append-assoc, append-assoc, map-snoc step ss s, length-snoc ss s)
     (in-steps t c (step-good T ss s gs g p) (works-append T w (step-works T s (length ss) gs p)))
 next (in-start {T} {cs} t c) (a-size {n}) p =
-    let b = and-true (leb 1 n) (leb n 32) (and-true (leb 1 n && leb n 32) true (p .0) .0) in
+    let b = both-true (leb 1 n) (leb n 32) (both-true (leb 1 n && leb n 32) true (p .0) .0) in
     rw (append-assoc, append-assoc) (in-facts {fs = []} t c (record { least = leb-true 1 n (b .0); most = leb-true n 32 (b .1); ranges = tt; differ = tt }))
 next (in-facts {T} {cs} {n} {fs} t c m) (a-fact {f}) p =
     rw (append-assoc, append-assoc, map-snoc fact fs f)

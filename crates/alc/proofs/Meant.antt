@@ -23,7 +23,7 @@ use Rattle.alc.specs.Slide.{Rule}
 use Rattle.alc.specs.Derivation.{Derives}
 use Rattle.alc.specs.Reading.{InRange, GoodTable, GoodModel, ReadsProof, ReadsModel, Evidence, a-derivation, a-model, Reads}
 use Rattle.alc.specs.Accepts.{Fails}
-use Rattle.alc.proofs.Logic.{and-true, clash}
+use Rattle.alc.proofs.Logic.{both-true, clash}
 use Rattle.alc.proofs.ListFacts.{All-append}
 use Rattle.alc.proofs.Trees.{well-formed}
 use Rattle.alc.proofs.Derive
@@ -118,7 +118,7 @@ places-below : (n a : ℕ) (f : Fact) → InRange 0 n (factFields f) → All (λ
 places-below n a (places b d) r = go (eqb a b)
   where
     below : d < n
-    below = ltb-true d n (and-true (ltb d n) true (and-true (ltb b 64) (ltb d n && true) r .1) .0)
+    below = ltb-true d n (both-true (ltb d n) true (both-true (ltb b 64) (ltb d n && true) r .1) .0)
 
     go : (t : Bool) → All (λ e. e < n) (cond t (d ∷ []) [])
     go true = (below, tt)

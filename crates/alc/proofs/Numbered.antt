@@ -16,16 +16,11 @@ use Rattle.alc.specs.Table.{Table, Entry, Kind-discrete, entry, entryOf,
 use Rattle.alc.specs.Table as Table
 use Rattle.alc.specs.Reading.{InTurn, InRange, GoodTable}
 use Rattle.lines.proofs.Laws.{is-false}
-use Rattle.alc.proofs.Logic.{and-true, clash}
-use Rattle.alc.proofs.ListFacts.{any-All, All-none}
+use Rattle.alc.proofs.Logic.{both-true, clash}
+use Rattle.alc.proofs.ListFacts.{any-All, All-none, All-at}
 
 module _ {A : Type 0} (d : A) where
-  -- at each number, and the other way round
-  pub All-at : (P : A → Type 0) (l : List A) → All P l → (i : ℕ) → i < length l → P (getD l i d)
-  All-at P [] h i k = absurd (omega arith)
-  All-at P (x ∷ l) h zero k = h .0
-  All-at P (x ∷ l) h (suc i) k = All-at P l (h .1) i (omega arith)
-
+  -- what holds at each number holds of all
   at-All : (P : A → Type 0) (l : List A) → ((i : ℕ) → i < length l → P (getD l i d)) → All P l
   at-All P [] h = tt
   at-All P (x ∷ l) h = (h 0 (omega arith), at-All P l (λ i k. h (suc i) (omega arith)))
@@ -42,8 +37,8 @@ module _ {A : Type 0} (d : A) where
 
 same-entry : (e f : Entry) → sameEntry e f ≡ true → e ≡ f
 same-entry e f h =
-    let a = and-true (decide (Kind-discrete (e .kind) (f .kind)) && eqb (e .x) (f .x)) (eqb (e .y) (f .y)) h in
-    let b = and-true (decide (Kind-discrete (e .kind) (f .kind))) (eqb (e .x) (f .x)) (a .0) in
+    let a = both-true (decide (Kind-discrete (e .kind) (f .kind)) && eqb (e .x) (f .x)) (eqb (e .y) (f .y)) h in
+    let b = both-true (decide (Kind-discrete (e .kind) (f .kind))) (eqb (e .x) (f .x)) (a .0) in
     ap (λ k. entryOf k (e .x) (e .y)) (decide-iff (Kind-discrete (e .kind) (f .kind)) .0 (b .0)) ∙ ap (λ x. entryOf (f .kind) x (e .y)) (eqb-true (e .x) (f .x) (b .1))
     ∙ ap (λ y. entryOf (f .kind) (f .x) y) (eqb-true (e .y) (f .y) (a .1))
 

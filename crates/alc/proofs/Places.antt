@@ -21,7 +21,7 @@ use Rattle.alc.specs.Rules.{Step}
 use Rattle.alc.specs.Model.{Fact}
 use Rattle.alc.specs.Dossier.{Said, concept, claim, proof, model, step, size, fact, unread, lexicon, sayings, saying, saidBy, saidAt}
 use Rattle.alc.specs.Verdict.{Part, table, claims, steps, start, facts, place}
-use Rattle.alc.proofs.Logic.{or-true}
+use Rattle.alc.proofs.Logic.{one-true}
 
 -- the parts of the dossier that a line may stand in
 abbrev pub parts : Said → List Part
@@ -99,7 +99,7 @@ one-of : (P : Part → Type 0) (p : Part) (qs : List Part) → any (λ q. eqb (p
 one-of P p [] e h = absurd (false≢true e)
 one-of P p (q ∷ qs) e h =
     ⊎-elim (λ t. subst P (sym (part-place q) ∙ ap part-at (sym (eqb-true (place p) (place q) t)) ∙ part-place p) (h .0)) (λ t. one-of P p qs t (h .1))
-    (or-true (eqb (place p) (place q)) (any (λ r. eqb (place p) (place r)) qs) e)
+    (one-true (eqb (place p) (place q)) (any (λ r. eqb (place p) (place r)) qs) e)
 
 pub turn : (p : Part) (s : Said) → fits p s ≡ true → Turn p s
 turn p (concept e) h = one-of (λ q. Turn q (concept e)) p (table ∷ []) h (a-concept, tt)

@@ -14,7 +14,7 @@ use Rattle.alc.specs.Claims.{is, sub, link, Sided, left, right, truth}
 use Rattle.alc.specs.Rules
 use Rattle.alc.specs.Rules.{Step, plan, first, second, roleOf, inner}
 use Rattle.alc.specs.Goals.{avoids}
-use Rattle.alc.proofs.Logic.{and-true, and-false, or-true, or-false, if-true, if-false, clash, some-true, some-false, every-true, every-false}
+use Rattle.alc.proofs.Logic.{both-true, one-false, one-true, both-false, if-true, if-false, clash, some-true, some-false, every-true, every-false}
 use Rattle.alc.proofs.Trees.{WellFormed, law-at}
 use Rattle.alc.proofs.Sound.{Bad, moved, Refutes, Sound}
 
@@ -66,7 +66,7 @@ module _ (T : Table) (wf : WellFormed T) where
 
   new-link : (I : Interp) (b e r a i : ℕ) → avoids (b ∷ []) (left (is a i)) ≡ true → truth T (with I b e) (link r a b) ≡ I .world .roles r (I .place a) e
   unfolding truth
-  new-link I b e r a i n = ap₂ (I .world .roles r) (put-old (I .place) b e a (not-true (elem a (b ∷ [])) (and-true (not (elem a (b ∷ []))) true n .0))) (put-new (I .place) b e)
+  new-link I b e r a i n = ap₂ (I .world .roles r) (put-old (I .place) b e a (not-true (elem a (b ∷ [])) (both-true (not (elem a (b ∷ []))) true n .0))) (put-new (I .place) b e)
 
   pub plan-sound : (s : Step) → Sound T (plan T s)
   unfolding plan truth member
@@ -80,14 +80,14 @@ module _ (T : Table) (wf : WellFormed T) where
   plan-sound (Rules.not-l a i) I p k u n b = inl (stay I p _ (not-true (at I a (first T i)) (yes-left I a i Kind.not k (b .0)), tt))
   plan-sound (Rules.not-r a i) I p k u n b = inl (stay I p _ (no-right I a i Kind.not k (b .0), tt))
   plan-sound (Rules.and-l a i) I p k u n b =
-      let h = and-true (at I a (first T i)) (at I a (second T i)) (yes-left I a i Kind.and k (b .0)) in
+      let h = both-true (at I a (first T i)) (at I a (second T i)) (yes-left I a i Kind.and k (b .0)) in
       inl (stay I p _ (ap not (h .0), (ap not (h .1), tt)))
   plan-sound (Rules.and-r a i) I p k u n b =
-      ⊎-elim (λ h. inl (stay I p _ (h, tt))) (λ h. inr (inl (stay I p _ (h, tt)))) (and-false (at I a (first T i)) (at I a (second T i)) (no-right I a i Kind.and k (b .0)))
+      ⊎-elim (λ h. inl (stay I p _ (h, tt))) (λ h. inr (inl (stay I p _ (h, tt)))) (one-false (at I a (first T i)) (at I a (second T i)) (no-right I a i Kind.and k (b .0)))
   plan-sound (Rules.or-l a i) I p k u n b =
-      ⊎-elim (λ h. inl (stay I p _ (ap not h, tt))) (λ h. inr (inl (stay I p _ (ap not h, tt)))) (or-true (at I a (first T i)) (at I a (second T i)) (yes-left I a i Kind.or k (b .0)))
+      ⊎-elim (λ h. inl (stay I p _ (ap not h, tt))) (λ h. inr (inl (stay I p _ (ap not h, tt)))) (one-true (at I a (first T i)) (at I a (second T i)) (yes-left I a i Kind.or k (b .0)))
   plan-sound (Rules.or-r a i) I p k u n b =
-      let h = or-false (at I a (first T i)) (at I a (second T i)) (no-right I a i Kind.or k (b .0)) in
+      let h = both-false (at I a (first T i)) (at I a (second T i)) (no-right I a i Kind.or k (b .0)) in
       inl (stay I p _ (h .0, (h .1, tt)))
   plan-sound (Rules.sub-l a i j) I p k u n b =
       let h = every-true _ (I .world .size) (not-false (truth T I (sub i j)) (b .0)) (I .place a) (p a) in
@@ -98,7 +98,7 @@ module _ (T : Table) (wf : WellFormed T) where
       inl (move I p c (w .0) (w .1) _ (ap not (new-is I c (w .0) i ∙ h .0), (new-is I c (w .0) j ∙ h .1, tt)))
   plan-sound (Rules.some-l a i c) I p k u n b =
       let w = some-true _ (I .world .size) (yes-left I a i Kind.some k (b .0)) in
-      let h = and-true (I .world .roles (roleOf T i) (I .place a) (w .0)) (member (I .world) (treeOf T (inner T i)) (w .0)) (w .2) in
+      let h = both-true (I .world .roles (roleOf T i) (I .place a) (w .0)) (member (I .world) (treeOf T (inner T i)) (w .0)) (w .2) in
       inl (move I p c (w .0) (w .1) _ (ap not (new-link I c (w .0) (roleOf T i) a i (n .0) ∙ h .0), (ap not (new-is I c (w .0) (inner T i) ∙ h .1), tt)))
   plan-sound (Rules.some-r a i c) I p k u n b =
       let h = some-false _ (I .world .size) (no-right I a i Kind.some k (b .0)) (I .place c) (p c) in

@@ -16,7 +16,7 @@ use Rattle.alc.specs.Rules.{Step, plan}
 use Rattle.alc.specs.Goals.{avoids, areNew, premises}
 use Rattle.alc.specs.Slide
 use Rattle.alc.specs.Slide.{Rule, Avoids, _∉_}
-use Rattle.alc.proofs.Logic.{or-false}
+use Rattle.alc.proofs.Logic.{both-false}
 use Rattle.alc.proofs.ListFacts.{All-map, every-All, All-every}
 use Rattle.alc.proofs.Sound.{Fits}
 
@@ -32,7 +32,7 @@ none-new (s ∷ g) = rw (no-names (names (claim s))) (none-new g)
 -- the test of one new name, and what it says of each claim
 module _ (b : ℕ) where
   other : (a : ℕ) → not (elem a (b ∷ [])) ≡ true → a ≢ b
-  other a e = eqb-false a b (or-false (eqb a b) false (not-true (elem a (b ∷ [])) e) .0)
+  other a e = eqb-false a b (both-false (eqb a b) false (not-true (elem a (b ∷ [])) e) .0)
 
   tells : (a : ℕ) → a ≢ b → not (elem a (b ∷ [])) ≡ true
   tells a h = rw (ne-eqb a b h)

@@ -14,7 +14,7 @@ use Rattle.alc.specs.Table.{Table, treeOf}
 use Rattle.alc.specs.Claims.{Claim, is, sub, link, Sided, left, right, Goal, names, has, truth, holdsBy, holds, Valid}
 use Rattle.alc.specs.Rules.{Step, Plan, plan}
 use Rattle.alc.specs.Goals.{avoids, rest, premises, areNew}
-use Rattle.alc.proofs.Logic.{and-true, clash}
+use Rattle.alc.proofs.Logic.{both-true, clash}
 use Rattle.alc.proofs.ListFacts.{All-zip, All-append, every-All, any-All, All-none, All-needs, All-rest}
 
 -- the step may be taken at the goal: the entry is of its kind, the claims needed are there, the new names are new
@@ -80,7 +80,7 @@ step-sound T s sound g f v I placed = go (holds T I g) refl
     of-needs P k = All-needs P g (p .needs) (every-All (has g) (p .needs) (f .needs)) k
 
     differ : (distinct (p .news) ≡ true) × (every (avoids (p .news)) g ≡ true)
-    differ = and-true (distinct (p .news)) (every (avoids (p .news)) g) (f .news)
+    differ = both-true (distinct (p .news)) (every (avoids (p .news)) g) (f .news)
 
     new : All (λ t. avoids (p .news) t ≡ true) g
     new = every-All (avoids (p .news)) g (differ .1)

@@ -4,17 +4,14 @@ use Prim.Native.Nat.{ℕ, suc}
 use mathlib.Core.Bool.{Bool, true, false, not, cond, _&&_, _||_}
 use mathlib.Core.List.{List, [], _∷_}
 use lib.Dec.{eqb}
+-- every element passes the test
+pub use Rattle.lines.specs.Text.{every}
 
 module _ {A : Type 0} where
   -- P holds of every element
   abbrev pub All : (A → Type 0) → List A → Type 0
   All P [] = Unit {0}
   All P (x ∷ xs) = P x × All P xs
-
-  -- every element passes the test
-  abbrev pub every : (A → Bool) → List A → Bool
-  every p [] = true
-  every p (x ∷ xs) = p x && every p xs
 
   -- some element passes the test
   abbrev pub any : (A → Bool) → List A → Bool

@@ -27,7 +27,7 @@ use Rattle.alc.specs.Shown.{Shows, records, recordOf}
 use Rattle.alc.specs.declared.Goal.{Goal as Records}
 use Rattle.alc.specs.declared.Claim.{Claim as Record}
 use Rattle.alc.specs.Verdict.{State, rows, after}
-use Rattle.goals.proofs.RecordLaws.{and-left, and-right, below-at}
+use Rattle.alc.proofs.Logic.{and-left, and-right, every-true}
 use Rattle.goals.proofs.Steps.{map-append}
 use Rattle.heading.specs.Fields.{saidFields}
 use Rattle.heading.specs.Parts.{sidedIn, claimRows, inClaims, inSteps, atStart, Through, none, ClaimsEnd, failed, ClaimsLead, proof, model, refused}
@@ -46,7 +46,7 @@ all-among = refl
 pub stands-among : (l : Line) → Told l → allowedAt 1 l ≡ true → (8 ≤ l .word) × (l .word ≤ 12)
 unfolding among
 stands-among l t a =
-    let e : (leb 8 (l .word) && leb (l .word) 12) ≡ true = go (below-at among wordCount all-among (l .word) (t .known)) in
+    let e : (leb 8 (l .word) && leb (l .word) 12) ≡ true = go (every-true among wordCount all-among (l .word) (t .known)) in
     (leb-true 8 (l .word) (and-left _ (leb (l .word) 12) e), leb-true (l .word) 12 (and-right (leb 8 (l .word)) _ e))
   where
     go : among (l .word) ≡ true → (leb 8 (l .word) && leb (l .word) 12) ≡ true

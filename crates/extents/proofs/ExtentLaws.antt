@@ -4,7 +4,7 @@
 use Prim.Native.Nat.{ℕ, zero, suc, _+_, _*_, _≤_, _<_}
 use native.Mathlib.Omega.{arith}
 use native.Mathlib.Decide.{ℕ-discrete}
-use mathlib.Core.Bool.{Bool, true, false, not, _&&_, _||_}
+use mathlib.Core.Bool.{Bool, true, false, not, _&&_, _||_, and-false}
 use mathlib.Core.List.{List}
 use mathlib.Core.Path.{_≡_, refl, sym, ap, ap₂, _∙_}
 use lib.Dec.{ltb}
@@ -15,10 +15,10 @@ use Rattle.alc.proofs.Trees.{concepts}
 use Rattle.alc.specs.Meaning.{World, someBelow, everyBelow}
 use Rattle.alc.specs.Table.{Kind, fieldsBy}
 use Rattle.alc.specs.Shown.{kindAt}
+use Rattle.alc.proofs.Logic.{not-or}
 use Rattle.sets.specs.Bit.{bit, common}
 use Rattle.extents.specs.Extent.{extent}
 use Rattle.models.specs.Shown.{edgeIn}
-use Rattle.sets.proofs.Bools.{and-off}
 
 some-same : (n : ℕ) (f g : ℕ → Bool) → ((e : ℕ) → e < n → f e ≡ g e) → someBelow n f ≡ someBelow n g
 some-same zero f g h = refl
@@ -42,20 +42,16 @@ deny true true = refl
 deny true false = refl
 deny false b = refl
 
-deny-or : (a b : Bool) → not (a || b) ≡ (not a && not b)
-deny-or true b = refl
-deny-or false b = refl
-
 -- "no element that is in a is outside p" is "every element that is in a is in p"
 pub not-some : (n : ℕ) (a p : ℕ → Bool) → not (someBelow n (λ e. a e && not (p e))) ≡ everyBelow n (λ e. not (a e) || p e)
 not-some zero a p = refl
-not-some (suc n) a p = deny-or (a n && not (p n)) (someBelow n (λ e. a e && not (p e))) ∙ ap₂ (λ (x y : Bool). x && y) (deny (a n) (p n)) (not-some n a p)
+not-some (suc n) a p = not-or (a n && not (p n)) (someBelow n (λ e. a e && not (p e))) ∙ ap₂ (λ (x y : Bool). x && y) (deny (a n) (p n)) (not-some n a p)
 
 -- a set against one of elements below n
 pub common-some : (n x y : ℕ) (p : ℕ → Bool) → n ≤ 32 → ((e : ℕ) → bit y e ≡ (ltb e n && p e)) → common x y ≡ someBelow n (λ e. bit x e && p e)
 unfolding common
 common-some n x y p h is =
-    some-less (λ e. bit x e && bit y e) 32 n h (λ e l. rw (is e, le-ltb e n l) (and-off (bit x e)))
+    some-less (λ e. bit x e && bit y e) 32 n h (λ e l. rw (is e, le-ltb e n l) (and-false (bit x e)))
     ∙ some-same n (λ e. bit x e && bit y e) (λ e. bit x e && p e) (λ e l. rw (is e, lt-ltb e n l) refl)
 
 -- what is the same below n is the same when it is clipped to n

@@ -19,9 +19,9 @@ use Rattle.alc.proofs.ShownLaws.{lineAt, table-at}
 use Rattle.sets.specs.Bit.{bit}
 use Rattle.extents.specs.Extent.{extent, Extended}
 use Rattle.models.specs.Shown.{Below, Tabled}
-use Rattle.sets.proofs.BitLaws.{zeros, bit-zero, ltb-more}
+use Rattle.sets.proofs.BitLaws.{bit-zero, ltb-more}
 use Rattle.extents.proofs.ExtentLaws.{clip, extent-same}
-use Rattle.alc.proofs.ListFacts.{All-map}
+use Rattle.alc.proofs.ListFacts.{All-map, zeros}
 use Rattle.alc.proofs.Trees.{parts, WellFormed}
 use Rattle.extents.proofs.Trees.{below-more, member-law}
 

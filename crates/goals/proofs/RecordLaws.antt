@@ -5,7 +5,7 @@ use native.Mathlib.Omega.{arith}
 use native.Mathlib.Nat.{le-refl, not-suc-le-zero}
 use native.Mathlib.Numerals.{add-one}
 use native.Mathlib.Decide.{ℕ-discrete, decLt}
-use mathlib.Core.Bool.{Bool, true, false, not, cond, _&&_, _||_, decide, false≢true}
+use mathlib.Core.Bool.{Bool, true, false, not, cond, _&&_, _||_, decide, false≢true, and-true, or-false}
 use mathlib.Core.List.{List, [], _∷_, _++_, append-nil, append-assoc}
 use mathlib.Core.Path.{_≡_, refl, sym, ap, ap₂, _∙_}
 use lib.Dec.{eqb, ltb, leb}
@@ -23,34 +23,13 @@ use Rattle.alc.specs.Shown.{records, blank, kindAt}
 use Rattle.alc.specs.declared.Claim.{Claim as Record}
 use Rattle.alc.specs.declared.Goal.{Goal as Records}
 use Rattle.alc.proofs.Goal.{the-type}
+use Rattle.alc.proofs.Logic.{and-left, and-right, bool-by, every-true}
 use Rattle.goals.specs.declared.Turn.{Turn}
 use Rattle.goals.specs.Records.{numbers, equal, sameRecord, hasName, lacking, keeping, asks, upTo, newsBy, added, Ruling, newIn, keptBy, recordRows, cutAt, premiseAt, Makes}
-
-pub and-left : (a b : Bool) → (a && b) ≡ true → a ≡ true
-and-left true b h = refl
-and-left false b h = h
-
-pub and-right : (a b : Bool) → (a && b) ≡ true → b ≡ true
-and-right true b h = h
-and-right false b h = absurd (false≢true h)
-
-pub and-end : (b : Bool) → b ≡ (b && true)
-and-end true = refl
-and-end false = refl
 
 and-twice : (b : Bool) → b ≡ (b && (b && true))
 and-twice true = refl
 and-twice false = refl
-
-pub not-so : (b : Bool) → (b ≡ true → ⊥) → false ≡ b
-not-so true h = absurd (h refl)
-not-so false h = refl
-
-pub bool-by : (r e : Bool) → (r ≡ true → e ≡ true) → (e ≡ true → r ≡ true) → r ≡ e
-bool-by true true p q = refl
-bool-by true false p q = sym (p refl)
-bool-by false true p q = q refl
-bool-by false false p q = refl
 
 equal-eq : (xs ys : List ℕ) → equal xs ys ≡ true → xs ≡ ys
 equal-eq [] [] h = refl
@@ -81,17 +60,13 @@ module _ (c d : Record) where
   pub same-last : c .kind ≡ d .kind → c .side ≡ d .side → c .a .0 ≡ d .a .0 → c .b .0 ≡ d .b .0 → c .i .0 ≡ d .i .0 → c .j .0 ≡ d .j .0
       → eqb (c .role .0) (d .role .0) ≡ sameRecord c d
   unfolding sameRecord
-  same-last k s a b i j = rw (eq-eqb _ _ k, eq-eqb _ _ s, eq-eqb _ _ a, eq-eqb _ _ b, eq-eqb _ _ i, eq-eqb _ _ j) (and-end (eqb (c .role .0) (d .role .0)))
+  same-last k s a b i j = rw (eq-eqb _ _ k, eq-eqb _ _ s, eq-eqb _ _ a, eq-eqb _ _ b, eq-eqb _ _ i, eq-eqb _ _ j) (sym (and-true (eqb (c .role .0) (d .role .0))))
 
 -- which names a record has, by its kind
-or-end : (b : Bool) → b ≡ (b || false)
-or-end true = refl
-or-end false = refl
-
 module _ (a : ℕ) (c : Record) where
   pub name-is : c .kind ≡ 1 → eqb a (c .a .0) ≡ hasName a c
   unfolding hasName
-  name-is k = rw k (or-end (eqb a (c .a .0)))
+  name-is k = rw k (sym (or-false (eqb a (c .a .0))))
 
   pub name-none : (c .kind ≡ 1 → ⊥) → (c .kind ≡ 3 → ⊥) → false ≡ hasName a c
   unfolding hasName
@@ -298,10 +273,10 @@ module _ (f : Record → Bool) (c d : Record) where
   pub every-two : (n : ℕ) → (n ≡ 0 → ⊥) → (n ≡ 1 → ⊥) → f c ≡ true → f d ≡ every f (upTo n c d)
   every-two zero h g e = absurd (h refl)
   every-two (suc zero) h g e = absurd (g refl)
-  every-two (suc (suc n)) h g e = rw e (and-end (f d))
+  every-two (suc (suc n)) h g e = rw e (sym (and-true (f d)))
 
 pub news-asked : (l : List Record) (b : Bool) (a : ℕ) → b ≡ true → not (any (hasName a) l) ≡ newIn (newsBy b a) l
-news-asked l b a h = rw h (and-end (not (any (hasName a) l)))
+news-asked l b a h = rw h (sym (and-true (not (any (hasName a) l))))
 
 pub keep-all : (l : List Record) (b : Bool) (u : List Record) → b ≡ false → l ≡ keeping b u l
 keep-all l b u h = rw h
@@ -325,14 +300,6 @@ agree-all : everyBelow 8 (λ a. everyBelow 8 (λ k. agree a k)) ≡ true
 unfolding agree decide
 agree-all = refl
 
-pub below-at : (p : ℕ → Bool) (n : ℕ) → everyBelow n p ≡ true → (i : ℕ) → i < n → p i ≡ true
-below-at p zero h i l = absurd (not-suc-le-zero l)
-below-at p (suc n) h i l = go (λ g. below-at p n (and-right (p n) (everyBelow n p) h) i g) (ℕ-discrete i n)
-  where
-    go : (i < n → p i ≡ true) → Dec (i ≡ n) → p i ≡ true
-    go e (yes g) = rw g (and-left (p n) (everyBelow n p) h)
-    go e (no g) = e (omega arith)
-
 cond-same : (b c : Bool) → cond b c (not c) ≡ true → b ≡ c
 cond-same true c h = sym h
 cond-same false true h = h
@@ -340,7 +307,7 @@ cond-same false false h = refl
 
 pub kind-same : (a k : ℕ) → a < 8 → k < 8 → eqb a k ≡ decide (Kind-discrete (kindAt k) (kindAt a))
 unfolding agree
-kind-same a k h l = cond-same (eqb a k) _ (below-at (λ j. agree a j) 8 (below-at (λ b. everyBelow 8 (λ j. agree b j)) 8 agree-all a h) k l)
+kind-same a k h l = cond-same (eqb a k) _ (every-true (λ j. agree a j) 8 (every-true (λ b. everyBelow 8 (λ j. agree b j)) 8 agree-all a h) k l)
 
 pub kind-asked : (a k : ℕ) → (a ≡ 8 → ⊥) → k < 8 → eqb a k ≡ asks a (kindAt k)
 kind-asked a k n l = go (decLt a 8)
@@ -412,11 +379,11 @@ module _ (c d : Record) where
     fits-none n h = rw h
 
     pub fits-two : (n : ℕ) → n ≡ 2 → ltb m 63 ≡ every (λ l. leb (length (k ++ l)) 64) (added n c d)
-    fits-two n h = rw h (and-end (ltb m 63) ∙ ap (λ b. b && true) (long (c ∷ d ∷ []) 63 refl))
+    fits-two n h = rw h (sym (and-true (ltb m 63)) ∙ ap (λ b. b && true) (long (c ∷ d ∷ []) 63 refl))
 
     pub fits-one : (n : ℕ) → (n ≡ 0 → ⊥) → (n ≡ 2 → ⊥) → ltb m 64 ≡ every (λ l. leb (length (k ++ l)) 64) (added n c d)
     fits-one zero h g = absurd (h refl)
-    fits-one (suc zero) h g = and-end (ltb m 64) ∙ ap (λ b. b && true) (long (c ∷ []) 64 refl)
+    fits-one (suc zero) h g = sym (and-true (ltb m 64)) ∙ ap (λ b. b && true) (long (c ∷ []) 64 refl)
     fits-one (suc (suc zero)) h g = absurd (g refl)
     fits-one (suc (suc (suc n))) h g =
         and-twice (ltb m 64) ∙ ap₂ (λ a b. a && (b && true)) (long (c ∷ []) 64 refl) (long (d ∷ []) 64 refl)

@@ -4,7 +4,7 @@ use Prim.Native.Nat.{ℕ, zero, suc, _+_, _≤_, _<_}
 use native.Mathlib.Omega.{arith}
 use native.Mathlib.Decide.{ℕ-discrete}
 use native.Mathlib.Nat.{not-suc-le-zero, le-of-suc-le-suc}
-use mathlib.Core.Bool.{Bool, true, false, not, cond, _&&_, _||_, decide-iff}
+use mathlib.Core.Bool.{Bool, true, false, not, cond, _&&_, _||_, decide-iff, or-false}
 use mathlib.Core.List.{List, [], _∷_, _++_, map}
 use mathlib.Core.Path.{_≡_, refl, sym, ap, ap₂, _∙_}
 use lib.Dec.{eqb, ltb, leb}
@@ -19,10 +19,11 @@ use Rattle.alc.specs.Rules.{Step, stepFields, Plan, plan}
 use Rattle.alc.specs.Goals.{avoids, areNew, rest, premises, stepRows}
 use Rattle.alc.specs.Shown.{recordOf}
 use Rattle.alc.proofs.ShownLaws.{record-once}
+use Rattle.alc.proofs.Logic.{bool-by, not-or}
 use Rattle.alc.specs.declared.Claim.{Claim as Record}
 use Rattle.goals.specs.declared.Turn.{Turn}
 use Rattle.goals.specs.Records.{sameRecord, hasName, lacking, keeping, added, Ruling, ruling, newIn, keptBy, recordRows, premiseAt, Turns}
-use Rattle.goals.proofs.RecordLaws.{bool-by, same-eq, eq-same}
+use Rattle.goals.proofs.RecordLaws.{same-eq, eq-same}
 
 same-record : (s t : Sided) → sameRecord (recordOf s) (recordOf t) ≡ same s t
 same-record s t =
@@ -67,22 +68,14 @@ pair true c = refl
 pair false true = refl
 pair false false = refl
 
-or-none : (b : Bool) → (b || false) ≡ b
-or-none true = refl
-or-none false = refl
-
 name-claim : (a : ℕ) (s : Sided) → not (hasName a (recordOf s)) ≡ avoids (a ∷ []) s
 unfolding hasName
-name-claim a (left (is x i)) = rw (or-none (eqb a x), eqb-turn a x) (lone (eqb x a))
+name-claim a (left (is x i)) = rw (or-false (eqb a x), eqb-turn a x) (lone (eqb x a))
 name-claim a (left (sub i j)) = refl
 name-claim a (left (link r x y)) = rw (eqb-turn a x, eqb-turn a y) (pair (eqb x a) (eqb y a))
-name-claim a (right (is x i)) = rw (or-none (eqb a x), eqb-turn a x) (lone (eqb x a))
+name-claim a (right (is x i)) = rw (or-false (eqb a x), eqb-turn a x) (lone (eqb x a))
 name-claim a (right (sub i j)) = refl
 name-claim a (right (link r x y)) = rw (eqb-turn a x, eqb-turn a y) (pair (eqb x a) (eqb y a))
-
-not-or : (b c : Bool) → not (b || c) ≡ (not b && not c)
-not-or true c = refl
-not-or false c = refl
 
 any-names : (a : ℕ) (cs : List Sided) → not (any (hasName a) (map recordOf cs)) ≡ every (avoids (a ∷ [])) cs
 any-names a [] = refl
@@ -108,7 +101,7 @@ news-record : (ns : List ℕ) (cs : List Sided) → every (λ a. not (any (hasNa
 news-record [] cs = sym (every-true (avoids []) (λ s. every-true (λ a. not (elem a [])) (λ a. refl) (names (claim s))) cs)
 news-record (a ∷ ns) cs =
     ap₂ _&&_ (any-names a cs) (news-record ns cs)
-    ∙ sym (every-both (avoids (a ∷ [])) (avoids ns) (avoids (a ∷ ns)) (λ s. every-both (λ b. not (elem b (a ∷ []))) (λ b. not (elem b ns)) (λ b. not (elem b (a ∷ ns))) (λ b. rw (or-none (eqb b a)) (not-or (eqb b a) (elem b ns))) (names (claim s))) cs)
+    ∙ sym (every-both (avoids (a ∷ [])) (avoids ns) (avoids (a ∷ ns)) (λ s. every-both (λ b. not (elem b (a ∷ []))) (λ b. not (elem b ns)) (λ b. not (elem b (a ∷ ns))) (λ b. rw (or-false (eqb b a)) (not-or (eqb b a) (elem b ns))) (names (claim s))) cs)
 
 -- the premises
 pub map-append : (l m : List Sided) → map recordOf (l ++ m) ≡ map recordOf l ++ map recordOf m

@@ -1,7 +1,7 @@
 -- The bounds of the numbers of a line: a number is in the range of its letter if it is below that letter's bound, so the three bounds of a
 -- word say what its three letters say. Assumes nothing.
 use Prim.Native.Nat.{ℕ, _≤_, _<_}
-use mathlib.Core.Bool.{Bool, true, false, cond, _&&_, _||_}
+use mathlib.Core.Bool.{Bool, true, false, cond, _&&_, _||_, and-true}
 use mathlib.Core.List.{List, [], _∷_}
 use mathlib.Core.Path.{_≡_, refl, sym, _∙_}
 use lib.Dec.{eqb, ltb, leb}
@@ -14,7 +14,7 @@ use Rattle.alc.specs.Ranges as Ranges
 use Rattle.alc.specs.Ranges.{inRange}
 use Rattle.alc.specs.Meaning.{everyBelow}
 use Rattle.alc.specs.Dossier.{saying}
-use Rattle.goals.proofs.RecordLaws.{and-left, and-right, and-end, below-at}
+use Rattle.alc.proofs.Logic.{and-left, and-right, every-true}
 use Rattle.heading.specs.Fields.{saidFields, fieldBy}
 use Rattle.heading.proofs.FieldLaws.{firsts, seconds, thirds, ranges-at}
 
@@ -35,11 +35,11 @@ in-bound e d k n s h = go (eqb k 114) (eqb k 65) (eqb k 110) (eqb k 100) (eqb k 
         (cond (eqb k 115) (Ranges.size n ∷ [])
         (cond c (Ranges.concept n ∷ [])
         []))))))
-    go true a m x c = and-end (ltb n 16)
-    go false true m x c = and-end (ltb n 64)
-    go false false true x c = and-end (ltb n 64)
-    go false false false true c = and-end (ltb n d)
-    go false false false false true = rw s (and-end (ltb n e))
+    go true a m x c = sym (and-true (ltb n 16))
+    go false true m x c = sym (and-true (ltb n 64))
+    go false false true x c = sym (and-true (ltb n 64))
+    go false false false true c = sym (and-true (ltb n d))
+    go false false false false true = rw s (sym (and-true (ltb n e)))
     go false false false false false = rw s (lt-ltb n 65536 h)
 
 -- the numbers of a line fit two bytes
@@ -80,10 +80,10 @@ lettered ks a b f g i w = (elem w ks || (ltb w a || leb b w)) || (eqb (getD firs
 module _ (ks : List ℕ) (a b f g i : ℕ) (test : everyBelow wordCount (lettered ks a b f g i) ≡ true) where
   pub others : (w : ℕ) → w < wordCount → a ≤ w → w < b → Other ks w → (getD firsts w 0 ≡ f) × (getD seconds w 0 ≡ g) × (getD thirds w 0 ≡ i)
   others w h l m o =
-      let t : (eqb (getD firsts w 0) f && (eqb (getD seconds w 0) g && eqb (getD thirds w 0) i)) ≡ true = sym (rw (other ks w o, le-ltb w a l, lt-leb b w m)) ∙ below-at (lettered ks a b f g i) wordCount test w h in
+      let t : (eqb (getD firsts w 0) f && (eqb (getD seconds w 0) g && eqb (getD thirds w 0) i)) ≡ true = sym (rw (other ks w o, le-ltb w a l, lt-leb b w m)) ∙ every-true (lettered ks a b f g i) wordCount test w h in
       let s = and-right (eqb (getD firsts w 0) f) _ t in
       (eqb-true _ f (and-left _ _ t), eqb-true _ g (and-left _ _ s), eqb-true _ i (and-right (eqb (getD seconds w 0) g) _ s))
 
 -- `size` has a range of its own
 pub by-size : (e d : ℕ) (l : Line) → l .word ≡ 32 → (leb 1 (l .n0) && leb (l .n0) 32) ≡ every (inRange e d) (saidFields (saying l))
-by-size e d l q = rw q (and-end (leb 1 (l .n0) && leb (l .n0) 32))
+by-size e d l q = rw q (sym (and-true (leb 1 (l .n0) && leb (l .n0) 32)))

@@ -2,7 +2,7 @@
 -- field in its range is a byte. Assumes nothing.
 use Prim.Native.Nat.{ℕ, zero, suc, _<_}
 use native.Mathlib.Nat.{not-suc-le-zero, le-of-suc-le-suc}
-use mathlib.Core.Bool.{Bool, true, false, cond, _&&_}
+use mathlib.Core.Bool.{Bool, true, false, cond, _&&_, and-true}
 use mathlib.Core.List.{List, [], _∷_, _++_, map}
 use mathlib.Core.Path.{_≡_, refl, sym, ap, _∙_}
 use lib.Dec.{eqb, ltb, leb}
@@ -14,7 +14,6 @@ use Rattle.alc.specs.Ranges.{Field, inRange}
 use Rattle.alc.specs.Claims.{Claim, left, right, claim}
 use Rattle.alc.specs.Rules.{stepFields}
 use Rattle.alc.specs.Dossier.{unread, sayings, saying}
-use Rattle.goals.proofs.RecordLaws.{and-end}
 use Rattle.heading.specs.Fields.{saidFields, fieldBy}
 
 abbrev pub firsts : List ℕ
@@ -30,27 +29,27 @@ thirds = 45 ∷ 45 ∷ 45 ∷ 45 ∷ 45 ∷ 45 ∷ 45 ∷ 45 ∷ 45 ∷ 45 ∷ 1
 module _ (e d k n : ℕ) where
   pub as-role : k ≡ 114 → ltb n 16 ≡ every (inRange e d) (fieldBy k n)
   unfolding fieldBy
-  as-role h = rw h (and-end (ltb n 16))
+  as-role h = rw h (sym (and-true (ltb n 16)))
 
   pub as-atom : k ≡ 65 → ltb n 64 ≡ every (inRange e d) (fieldBy k n)
   unfolding fieldBy
-  as-atom h = rw h (and-end (ltb n 64))
+  as-atom h = rw h (sym (and-true (ltb n 64)))
 
   pub as-name : k ≡ 110 → ltb n 64 ≡ every (inRange e d) (fieldBy k n)
   unfolding fieldBy
-  as-name h = rw h (and-end (ltb n 64))
+  as-name h = rw h (sym (and-true (ltb n 64)))
 
   pub as-element : k ≡ 100 → ltb n d ≡ every (inRange e d) (fieldBy k n)
   unfolding fieldBy
-  as-element h = rw h (and-end (ltb n d))
+  as-element h = rw h (sym (and-true (ltb n d)))
 
   pub as-size : k ≡ 115 → (leb 1 n && leb n 32) ≡ every (inRange e d) (fieldBy k n)
   unfolding fieldBy
-  as-size h = rw h (and-end (leb 1 n && leb n 32))
+  as-size h = rw h (sym (and-true (leb 1 n && leb n 32)))
 
   pub as-concept : k ≡ 99 → ltb n e ≡ every (inRange e d) (fieldBy k n)
   unfolding fieldBy
-  as-concept h = rw h (and-end (ltb n e))
+  as-concept h = rw h (sym (and-true (ltb n e)))
 
 -- the columns, side by side
 abbrev threes : List ℕ → List ℕ → List ℕ → ℕ → ℕ → ℕ → List (List Field)

@@ -15,7 +15,7 @@ use Rattle.alc.specs.Lists.{every, elem}
 use Rattle.alc.specs.Ranges.{inRange}
 use Rattle.alc.specs.Meaning.{everyBelow}
 use Rattle.alc.specs.Dossier.{saying}
-use Rattle.goals.proofs.RecordLaws.{and-left, and-right, below-at}
+use Rattle.alc.proofs.Logic.{and-left, and-right, every-true}
 use Rattle.heading.specs.Fields.{saidFields, fieldBy}
 use Rattle.heading.proofs.FieldLaws.{firsts, seconds, thirds, as-role, as-atom, as-name, as-element, as-size, as-concept, ranges-at, in-first, in-second, in-third}
 
@@ -91,11 +91,11 @@ small l t e d le ld h =
     let b = and-right (in-first e d l (t .known)) _ g in
     let w = l .word in
     record {
-      first = either-small e d (getD firsts w 0) (l .n0) le ld a (rowOf w .count) 0 (below-at (lettered firsts 0) wordCount all-first w (t .known)) (t .first);
+      first = either-small e d (getD firsts w 0) (l .n0) le ld a (rowOf w .count) 0 (every-true (lettered firsts 0) wordCount all-first w (t .known)) (t .first);
       second =
-          either-small e d (getD seconds w 0) (l .n1) le ld (and-left (in-second e d l (t .known)) (in-third e d l (t .known)) b) (rowOf w .count) 1 (below-at (lettered seconds 1) wordCount all-second w (t .known))
+          either-small e d (getD seconds w 0) (l .n1) le ld (and-left (in-second e d l (t .known)) (in-third e d l (t .known)) b) (rowOf w .count) 1 (every-true (lettered seconds 1) wordCount all-second w (t .known))
           (t .second);
       third =
-          either-small e d (getD thirds w 0) (l .n2) le ld (and-right (in-second e d l (t .known)) (in-third e d l (t .known)) b) (rowOf w .count) 2 (below-at (lettered thirds 2) wordCount all-third w (t .known))
+          either-small e d (getD thirds w 0) (l .n2) le ld (and-right (in-second e d l (t .known)) (in-third e d l (t .known)) b) (rowOf w .count) 2 (every-true (lettered thirds 2) wordCount all-third w (t .known))
           (t .third);
     }

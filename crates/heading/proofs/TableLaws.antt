@@ -3,47 +3,35 @@
 use Prim.Native.Nat.{ℕ, zero, suc, _+_, _≤_, _<_, _%_}
 use native.Mathlib.Omega.{arith}
 use native.Mathlib.Numerals.{add-one}
-use mathlib.Core.Bool.{Bool, true, false, _&&_, _||_}
-use mathlib.Core.List.{List, [], _∷_, _++_}
+use mathlib.Core.Bool.{true, false, _&&_, _||_, and-assoc, or-comm}
+use mathlib.Core.List.{List}
 use mathlib.Core.Path.{_≡_, refl, sym, ap, ap₂, _∙_}
 use lib.Dec.{eqb, ltb}
 use lib.ListN.{length, getD}
 use Rattle.lines.specs.Text.{words, rowOf}
 use Rattle.lines.specs.declared.Line.{Line}
 use Rattle.lines.proofs.Told.{Told}
-use Rattle.alc.specs.Lists.{any, every}
+use Rattle.alc.specs.Lists.{every}
 use Rattle.alc.specs.Rows.{refusal}
 use Rattle.alc.specs.Ranges.{inRange}
 use Rattle.alc.specs.Table.{Entry, Table, entryOf, sameEntry, stands}
 use Rattle.alc.specs.Dossier.{concept, unread, sayings, saying}
 use Rattle.alc.specs.Shown.{kindAt, tableOf}
 use Rattle.alc.proofs.ShownLaws.{lineAt}
+use Rattle.alc.proofs.ListFacts.{any-more}
 use Rattle.goals.proofs.RecordLaws.{kind-same}
 use Rattle.goals.proofs.Steps.{eqb-turn}
 use Rattle.heading.specs.Fields.{saidFields}
 use Rattle.heading.specs.Parts.{entryIn, entryRows}
 use Rattle.heading.proofs.Small.{Small}
 
-and-turn : (a b c : Bool) → (a && (b && c)) ≡ ((a && b) && c)
-and-turn true b c = refl
-and-turn false b c = refl
-
 pub entry-same : (k x y j u v : ℕ) → k < 8 → j < 8 → (eqb k j && (eqb x u && eqb y v)) ≡ sameEntry (entryOf (kindAt k) x y) (entryOf (kindAt j) u v)
-entry-same k x y j u v h l = and-turn (eqb k j) (eqb x u) (eqb y v) ∙ ap (λ b. (b && eqb x u) && eqb y v) (eqb-turn k j ∙ kind-same j k l h)
+entry-same k x y j u v h l = sym (and-assoc (eqb k j) (eqb x u) (eqb y v)) ∙ ap (λ b. (b && eqb x u) && eqb y v) (eqb-turn k j ∙ kind-same j k l h)
 
 -- a line more: an entry stands in the table if it is that line or stands above it
-or-turn : (a b c : Bool) → (a || (b || c)) ≡ (b || (a || c))
-or-turn true true c = refl
-or-turn true false c = refl
-or-turn false b c = refl
-
-any-more : (p : Entry → Bool) (T : Table) (e : Entry) → any p (T ++ (e ∷ [])) ≡ (p e || any p T)
-any-more p [] e = refl
-any-more p (f ∷ T) e = ap (λ b. p f || b) (any-more p T e) ∙ or-turn (p f) (p e) (any p T)
-
 pub stands-more : (ks xs ys : List ℕ) (n : ℕ) (e : Entry) → stands (tableOf ks xs ys (n + 1)) e ≡ (sameEntry e (lineAt ks xs ys n) || stands (tableOf ks xs ys n) e)
 unfolding tableOf
-stands-more ks xs ys n e = rw (add-one n) (any-more (sameEntry e) (tableOf ks xs ys n) (lineAt ks xs ys n))
+stands-more ks xs ys n e = rw (add-one n) (any-more (sameEntry e) (tableOf ks xs ys n) (lineAt ks xs ys n) ∙ or-comm (stands (tableOf ks xs ys n) e) (sameEntry e (lineAt ks xs ys n)))
 
 -- a line of the text as a line of the table: what it does not say is 0
 pub said-entry : (s x y z w : ℕ) → w < 8 → (rowOf w .count ≤ 0 → x ≡ 0) → (rowOf w .count ≤ 1 → y ≡ 0) → getD (sayings s x y z) w unread ≡ concept (entryOf (kindAt w) x y)

@@ -20,7 +20,7 @@ use Rattle.alc.specs.Rows.{refusal}
 use Rattle.alc.specs.Meaning.{everyBelow}
 use Rattle.alc.specs.Dossier.{unread, sayings, saying}
 use Rattle.alc.specs.Verdict.{Part, table, claims, steps, start, facts, State, place, rows, after, judge}
-use Rattle.goals.proofs.RecordLaws.{below-at}
+use Rattle.alc.proofs.Logic.{every-true}
 use Rattle.heading.specs.Parts.{Through, none, line}
 use Rattle.heading.proofs.Judging.{judge-next}
 
@@ -86,7 +86,7 @@ test S q p l w = not (allowed (place q) w) || p (stage (after S (getD (sayings (
 tested : (S : State) (q : Part) (p : ℕ → Bool) (l : Line) → everyBelow wordCount (test S q p l) ≡ true → allowed (place q) (l .word) ≡ true
     → p (stage (after S (saying l))) ≡ true
 unfolding test
-tested S q p l h a = go (below-at (test S q p l) wordCount h (l .word) (allowed-within (l .word) (place q) a))
+tested S q p l h a = go (every-true (test S q p l) wordCount h (l .word) (allowed-within (l .word) (place q) a))
   where
     go : test S q p l (l .word) ≡ true → p (stage (after S (saying l))) ≡ true
     go e = rw a at e

@@ -3,21 +3,22 @@
 -- Assumes nothing.
 use Prim.Native.Nat.{ℕ, _*_, _+_, _<_}
 use native.Mathlib.Decide.{ℕ-discrete}
-use mathlib.Core.Bool.{Bool, true, false, not, cond, decide, _&&_, _||_, false≢true}
-use mathlib.Core.List.{List, [], _∷_, _++_, append-assoc}
+use mathlib.Core.Bool.{Bool, true, false, not, cond, decide, _&&_, _||_, false≢true, and-false, or-false}
+use mathlib.Core.List.{List, [], _∷_, _++_, append-nil, append-assoc}
 use mathlib.Core.Path.{_≡_, refl, sym, ap, ap₂, subst, _∙_, fun-ext}
 use lib.Dec.{eqb, ltb}
 use lib.ListN.{getD, replicate}
 use borrow.Author.Tests.{eq-eqb, ne-eqb, eqb-true}
-use Rattle.alc.specs.Lists.{All, any, every, isEmpty}
+use Rattle.alc.specs.Lists.{All, every, isEmpty}
 use Rattle.alc.specs.Meaning.{World}
 use Rattle.alc.specs.Claims.{Sided, claim, names}
 use Rattle.alc.specs.Model.{Fact, Fact-discrete, places, has, edge, isSaid, placesOf, placesIn, repeats, interpOf, allPlaced}
+use Rattle.alc.proofs.Logic.{both-true}
+use Rattle.alc.proofs.ListFacts.{any-more, zeros}
 use Rattle.sets.specs.Bit.{bit}
 use Rattle.models.specs.Shown.{atomIn, edgeIn, seats, seatsOf, interpShown, allSeated, withAtom, withEdge, PlaceSet, AtomSet, EdgeSet}
 use Rattle.models.specs.Told.{Tells}
-use Rattle.sets.proofs.Bools.{and-off, and-true, or-none}
-use Rattle.sets.proofs.BitLaws.{zeros, bit-zero}
+use Rattle.sets.proofs.BitLaws.{bit-zero}
 
 -- two facts are equal just if they are of one word and their numbers are equal
 decide-is : {P : Type 0} (d : Dec P) (b : Bool) → (P → b ≡ true) → (b ≡ true → P) → decide d ≡ b
@@ -36,35 +37,23 @@ same-has : (A d B e : ℕ) → same (has B e) (has A d) ≡ (eqb A B && eqb d e)
 same-has A d B e =
     decide-is (Fact-discrete ℕ-discrete (has B e) (has A d)) (eqb A B && eqb d e)
     (λ (p : has B e ≡ has A d). let q : A ≡ B = cc in let r : d ≡ e = cc in rw (eq-eqb A B q, eq-eqb d e r))
-    (λ h. let b = and-true (eqb A B) (eqb d e) h in ap₂ has (sym (eqb-true A B (b .0))) (sym (eqb-true d e (b .1))))
+    (λ h. let b = both-true (eqb A B) (eqb d e) h in ap₂ has (sym (eqb-true A B (b .0))) (sym (eqb-true d e (b .1))))
 
 same-edge : (r d e s f g : ℕ) → same (edge s f g) (edge r d e) ≡ (eqb r s && (eqb d f && eqb e g))
 same-edge r d e s f g =
     decide-is (Fact-discrete ℕ-discrete (edge s f g) (edge r d e)) (eqb r s && (eqb d f && eqb e g))
     (λ (p : edge s f g ≡ edge r d e). let q : r ≡ s = cc in let t : d ≡ f = cc in let u : e ≡ g = cc in rw (eq-eqb r s q, eq-eqb d f t, eq-eqb e g u))
     (λ h.
-    let b = and-true (eqb r s) (eqb d f && eqb e g) h in
-    let c = and-true (eqb d f) (eqb e g) (b .1) in
+    let b = both-true (eqb r s) (eqb d f && eqb e g) h in
+    let c = both-true (eqb d f) (eqb e g) (b .1) in
     let q = eqb-true r s (b .0) in
     let t = eqb-true d f (c .0) in
     let u = eqb-true e g (c .1) in
     cc)
 
 -- one fact more
-any-more : (p : Fact → Bool) (fs : List Fact) (f : Fact) → any p (fs ++ (f ∷ [])) ≡ (any p fs || p f)
-any-more p [] f = or-none (p f)
-any-more p (h ∷ fs) f = go (p h) (any-more p fs f)
-  where
-    go : (b : Bool) → any p (fs ++ (f ∷ [])) ≡ (any p fs || p f) → (b || any p (fs ++ (f ∷ []))) ≡ ((b || any p fs) || p f)
-    go true e = refl
-    go false e = e
-
-append-none : (l : List ℕ) → l ++ [] ≡ l
-append-none [] = refl
-append-none (x ∷ l) = ap (λ (r : List ℕ). x ∷ r) (append-none l)
-
 places-more : (fs : List Fact) (f : Fact) (a : ℕ) → placesIn (fs ++ (f ∷ [])) a ≡ placesIn fs a ++ placesOf a f
-places-more [] f a = append-none (placesOf a f)
+places-more [] f a = append-nil (placesOf a f)
 places-more (h ∷ fs) f a = ap (λ (l : List ℕ). placesOf a h ++ l) (places-more fs f a) ∙ sym (append-assoc (placesOf a h) (placesIn fs a) (placesOf a f))
 
 module _ (n : ℕ) (fs : List Fact) where
@@ -73,7 +62,7 @@ module _ (n : ℕ) (fs : List Fact) where
   said-more f h b e = any-more (same h) fs f ∙ ap (λ (t : Bool). isSaid fs h || t) e
 
   said-still : (f h : Fact) → (h ≡ f → false ≡ true) → isSaid (fs ++ (f ∷ [])) h ≡ isSaid fs h
-  said-still f h d = said-more f h false (apart h f d) ∙ or-none (isSaid fs h)
+  said-still f h d = said-more f h false (apart h f d) ∙ or-false (isSaid fs h)
 
   abbrev world : (ℕ → ℕ → Bool) → (ℕ → ℕ → ℕ → Bool) → World
   world sets pairs = record { size = n; atoms = sets; roles = pairs }
@@ -103,7 +92,7 @@ none-told n = record {
   world =
       ap₂ (world n [])
       (fun-ext (λ A. fun-ext (λ d. ap (λ (x : ℕ). bit x d) (zeros 64 A) ∙ bit-zero d)))
-      (fun-ext (λ r. fun-ext (λ d. fun-ext (λ e. ap (λ (x : ℕ). ltb d 32 && bit x e) (zeros 512 (r * 32 + d)) ∙ ap (λ (t : Bool). ltb d 32 && t) (bit-zero e) ∙ and-off (ltb d 32)))));
+      (fun-ext (λ r. fun-ext (λ d. fun-ext (λ e. ap (λ (x : ℕ). ltb d 32 && bit x e) (zeros 512 (r * 32 + d)) ∙ ap (λ (t : Bool). ltb d 32 && t) (bit-zero e) ∙ and-false (ltb d 32)))));
   seats = λ a. ap seats (zeros 64 a);
   inside = λ a. subst (All (λ d. d < n)) (sym (ap seats (zeros 64 a))) tt;
 }
@@ -124,7 +113,7 @@ module _ (n : ℕ) (fs : List Fact) (ps ats es : List ℕ) (t : Tells n fs ps at
   pub atom-told : (new : List ℕ) (A d : ℕ) (r : Bool) → AtomSet ats new A d r → Tells n (fs ++ (has A d ∷ [])) ps new es
   atom-told new A d r s = record {
     world = s .world n es ∙ ap (λ (W : World). withAtom W A d) (t .world) ∙ world-atom n fs A d;
-    seats = λ a. t .seats a ∙ sym (places-more fs (has A d) a ∙ append-none (placesIn fs a));
+    seats = λ a. t .seats a ∙ sym (places-more fs (has A d) a ∙ append-nil (placesIn fs a));
     inside = t .inside;
   }
 
@@ -135,7 +124,7 @@ module _ (n : ℕ) (fs : List Fact) (ps ats es : List ℕ) (t : Tells n fs ps at
   pub edge-told : (new : List ℕ) (r d e : ℕ) (q : Bool) → EdgeSet es new r d e q → Tells n (fs ++ (edge r d e ∷ [])) ps ats new
   edge-told new r d e q s = record {
     world = s .world n ats ∙ ap (λ (W : World). withEdge W r d e) (t .world) ∙ world-edge n fs r d e;
-    seats = λ a. t .seats a ∙ sym (places-more fs (edge r d e) a ∙ append-none (placesIn fs a));
+    seats = λ a. t .seats a ∙ sym (places-more fs (edge r d e) a ∙ append-nil (placesIn fs a));
     inside = t .inside;
   }
 
@@ -160,4 +149,4 @@ module _ (n : ℕ) (fs : List Fact) (ps ats es : List ℕ) (t : Tells n fs ps at
 
       put : (b : ℕ) → Dec (b ≡ a) → cond (eqb b a) (d ∷ []) (seatsOf ps b) ≡ placesIn fs b ++ cond (eqb b a) (d ∷ []) []
       put b (yes e) = rw (eq-eqb b a e, e, empty (placesIn fs a) (sym (place-answer new a d r s) ∙ free))
-      put b (no e) = rw (ne-eqb b a e) (t .seats b ∙ sym (append-none (placesIn fs b)))
+      put b (no e) = rw (ne-eqb b a e) (t .seats b ∙ sym (append-nil (placesIn fs b)))

@@ -1,8 +1,8 @@
 -- A goal's claims, one behind the other: its array is 64 long, so that below the count each record is a claim of the goal.
 -- Assumes nothing.
-use Prim.Native.Nat.{ℕ, zero, suc, _+_, _≤_, _<_}
+use Prim.Native.Nat.{ℕ, suc, _+_, _≤_, _<_}
 use native.Mathlib.Omega.{arith}
-use native.Mathlib.Nat.{not-suc-le-zero, zero-add}
+use native.Mathlib.Nat.{zero-add}
 use native.Mathlib.Numerals.{add-one}
 use mathlib.Core.Bool.{Bool, true, false, cond}
 use mathlib.Core.List.{List, [], _∷_, map}
@@ -19,7 +19,7 @@ use Rattle.alc.specs.Shown.{claimOf, sidedOf, records, blank}
 use Rattle.alc.specs.declared.Claim.{Claim as Record}
 use Rattle.alc.specs.declared.Goal.{Goal as Records}
 use Rattle.alc.proofs.Goal.{the-type}
-use Rattle.sets.proofs.Bools.{and-true}
+use Rattle.alc.proofs.ListFacts.{every-All, All-at}
 use Rattle.models.specs.Shown.{Below, isSeated, Claimed, Seated, Fit}
 
 -- what a function is told of a goal that it is passed
@@ -32,16 +32,6 @@ claim-back c = go (eqb (c .side) 1)
     go : (b : Bool) → claim (cond b (left (claimOf c)) (right (claimOf c))) ≡ claimOf c
     go true = refl
     go false = refl
-
-module _ {A : Type 0} (P : A → Type 0) (z : A) where
-  All-at : (l : List A) → All P l → (k : ℕ) → k < length l → P (getD l k z)
-  All-at [] h k b = absurd (not-suc-le-zero b)
-  All-at (x ∷ l) h zero b = h .0
-  All-at (x ∷ l) h (suc k) b = All-at l (h .1) k (omega arith)
-
-pub every-All : {A : Type 0} (p : A → Bool) (l : List A) → every p l ≡ true → All (λ x. p x ≡ true) l
-every-All p [] h = tt
-every-All p (x ∷ l) h = let b = and-true (p x) (every p l) h in (b .0, every-All p l (b .1))
 
 module _ (g : Records) (few : g .count ≤ 64) (long : length (g .claims) ≡ 64) where
   count-is : length (map sidedOf (records g)) ≡ g .count
@@ -60,7 +50,7 @@ module _ (g : Records) (few : g .count ≤ 64) (long : length (g .claims) ≡ 64
   pub claim-at : (P : Claim → Type 0) → All (λ s. P (claim s)) (map sidedOf (records g)) → (k : ℕ) → k < g .count → P (claimOf (getD (g .claims) k blank))
   claim-at P h k l =
       subst P (ap claim (at k l) ∙ claim-back (getD (g .claims) k blank))
-      (All-at (λ s. P (claim s)) (sidedOf blank) (map sidedOf (records g)) h k (omega (arith, count-is)))
+      (All-at (sidedOf blank) (λ s. P (claim s)) (map sidedOf (records g)) h k (omega (arith, count-is)))
 
 pub fit-at : (g : Records) (n : ℕ) (places : List ℕ) → length (g .claims) ≡ 64 → Claimed 256 g → Seated n places g → (k : ℕ) → k < g .count → Fit n places (claimOf (getD (g .claims) k blank))
 fit-at g n places long c s k l = record {

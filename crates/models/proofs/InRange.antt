@@ -10,16 +10,15 @@ use borrow.Author.Tests.{ltb-true, leb-true}
 use Rattle.alc.specs.Lists.{All, every}
 use Rattle.alc.specs.Ranges.{Field, role, atom, name, element, size, concept, inRange}
 use Rattle.models.specs.Shown.{Below}
-use Rattle.sets.proofs.Bools.{and-true}
-use Rattle.models.proofs.Goals.{every-All}
-use Rattle.alc.proofs.ListFacts.{All-map}
+use Rattle.alc.proofs.ListFacts.{All-map, every-All}
+use Rattle.alc.proofs.Logic.{both-true}
 
 below : (n k : ℕ) (f : Field) → inRange n k f ≡ true → Below n k f
 below n k (role r) h = ltb-true r 16 h
 below n k (atom A) h = ltb-true A 64 h
 below n k (name a) h = ltb-true a 64 h
 below n k (element d) h = ltb-true d k h
-below n k (size m) h = let b = and-true (leb 1 m) (leb m 32) h in (leb-true 1 m (b .0), leb-true m 32 (b .1))
+below n k (size m) h = let b = both-true (leb 1 m) (leb m 32) h in (leb-true 1 m (b .0), leb-true m 32 (b .1))
 below n k (concept i) h = ltb-true i n h
 
 pub in-range : (n k : ℕ) (fs : List Field) → every (inRange n k) fs ≡ true → All (Below n k) fs

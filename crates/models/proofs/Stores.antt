@@ -5,7 +5,7 @@ use Prim.Native.Nat.{ℕ, zero, suc, _+_, _*_, _<_}
 use native.Mathlib.Omega.{arith}
 use native.Mathlib.Decide.{ℕ-discrete}
 use native.Mathlib.Numerals.{add-one}
-use mathlib.Core.Bool.{Bool, true, false, not, cond, _&&_, _||_}
+use mathlib.Core.Bool.{Bool, true, false, not, cond, _&&_, _||_, and-false, and-assoc, or-false}
 use mathlib.Core.List.{List}
 use mathlib.Core.Path.{_≡_, refl, sym, ap, _∙_, fun-ext}
 use lib.Dec.{eqb, ltb}
@@ -15,7 +15,6 @@ use borrow.Author.Tests.{eq-eqb, ne-eqb, ltb-true, ltb-false}
 use Rattle.alc.specs.Lists.{isEmpty}
 use Rattle.sets.specs.Bit.{bit}
 use Rattle.models.specs.Shown.{atomIn, edgeIn, seats, seatsOf, PlaceSet, worldOf, withAtom, withEdge}
-use Rattle.sets.proofs.Bools.{and-off, and-assoc, or-none}
 
 index-eqb : (r d s f : ℕ) → d < 32 → f < 32 → eqb (r * 32 + d) (s * 32 + f) ≡ (eqb r s && eqb d f)
 index-eqb r d s f h k = go (ℕ-discrete r s) (ℕ-discrete d f)
@@ -33,7 +32,7 @@ module _ (l : List ℕ) (i v : ℕ) (h : i < length l) where
     where
       go : Dec (i ≡ j) → bit (getD (set l i v) j 0) e ≡ (bit (getD l j 0) e || (eqb i j && eqb d e))
       go (yes p) = rw (← p, getD-set-same l i v 0 h, eq-eqb i i refl) (marks e)
-      go (no p) = rw (getD-set-other l i j v 0 (λ q. p (sym q)), ne-eqb i j p) (sym (or-none (bit (getD l j 0) e)))
+      go (no p) = rw (getD-set-other l i j v 0 (λ q. p (sym q)), ne-eqb i j p) (sym (or-false (bit (getD l j 0) e)))
 
   seats-at : (b : ℕ) → seatsOf (set l i v) b ≡ cond (eqb b i) (seats v) (seatsOf l b)
   unfolding seatsOf
@@ -76,7 +75,7 @@ module _ (old new : List ℕ) where
             rw t (sets (s * 32 + f) g
             ∙ ap (λ (b : Bool). bit (getD old (s * 32 + f) 0) g || (b && eqb e g)) (index-eqb r d s f low (ltb-true f 32 t))
             ∙ ap (λ (b : Bool). bit (getD old (s * 32 + f) 0) g || b) (and-assoc (eqb r s) (eqb d f) (eqb e g)))
-        go false t = rw (t, ne-eqb d f (λ (p : d ≡ f). omega (arith, ltb-false f 32 t))) (sym (and-off (eqb r s)))
+        go false t = rw (t, ne-eqb d f (λ (p : d ≡ f). omega (arith, ltb-false f 32 t))) (sym (and-false (eqb r s)))
 
     pub edge-world : (n : ℕ) (atoms : List ℕ) → worldOf n atoms new ≡ withEdge (worldOf n atoms old) r d e
     edge-world n atoms = ap (λ (f : ℕ → ℕ → ℕ → Bool). record { size = n; atoms = atomIn atoms; roles = f }) (fun-ext (λ s. fun-ext (λ f. fun-ext (edge-at s f))))

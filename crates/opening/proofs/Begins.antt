@@ -6,7 +6,7 @@ use mathlib.Core.Bool.{false≢true}
 use mathlib.Core.List.{List, [], _∷_}
 use mathlib.Core.Path.{_≡_, refl, sym, ap, subst, _∙_}
 use native.Mathlib.Omega.{arith}
-use lib.ListN.{length, getD, replicate, length-replicate}
+use lib.ListN.{length, length-replicate}
 use borrow.Author.Tests.{lt-leb, le-leb}
 use Rattle.lines.specs.Text.{linesOf}
 use Rattle.alc.specs.Rows.{refusal}
@@ -21,6 +21,7 @@ use Rattle.states.specs.declared.State.{State}
 use Rattle.steps.specs.Acting.{Fits, Ready, from}
 use Rattle.alc.specs.Verdict.{Verdict, refused, judge, begin, outerRows, verdict}
 use Rattle.alc.specs.declared.Answer.{Answer}
+use Rattle.alc.proofs.ListFacts.{zeros}
 use Rattle.opening.specs.Opened.{decidedOf, followingOf, Follows, Begins, Opens}
 use Rattle.opening.specs.declared.Opening.{Opening}
 
@@ -66,12 +67,6 @@ opens-following n text o entries ks xs ys claims at lines cs e columns fits few 
       subst (Begins n text) (sym e)
       (record { answer = refl; columns = columns; fits = fits; state = refl; small = few; cs = cs; current = shown; follows = follows });
 }
-
--- no goal waits at first
-zeros : (k i : ℕ) → _≡_ {A = ℕ} (getD (replicate k 0) i 0) 0
-zeros zero i = refl
-zeros (suc k) zero = refl
-zeros (suc k) (suc i) = zeros k i
 
 -- what an opening comes to after which a derivation follows: its first step can be read, and the verdict from there on is that of the text
 module _ (n : ℕ) (text : List ℕ) (o : Opening) (b : Begins n text o) where

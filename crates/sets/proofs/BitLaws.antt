@@ -5,16 +5,14 @@ use Prim.Native.Nat.{ℕ, zero, suc, _+_, _-_, _*_, _/_, _%_, _^_, _≤_, _<_}
 use native.Mathlib.Omega.{arith}
 use native.Mathlib.Nat.{div-eq-of-lt, zero-div, mul-mod-left, pow-suc, one-mul, div-lt-iff-lt-mul, lt-of-lt-of-le, mul-comm}
 use native.Mathlib.Decide.{ℕ-discrete}
-use mathlib.Core.Bool.{Bool, true, false, not, _&&_, _||_, false≢true}
+use mathlib.Core.Bool.{Bool, true, false, not, _&&_, _||_, false≢true, and-true, and-false, or-false}
 use mathlib.Core.Logic.{_⊎_, inl, inr}
 use mathlib.Core.Path.{_≡_, refl, sym, ap, _∙_, fun-ext}
 use lib.Dec.{eqb, ltb}
-use lib.ListN.{getD, replicate}
 use lib.Pow.{pow-pos, pow-mono, pow-lt, pow-add, shl-exact, shl-shr, high, ones-split, ones-lt}
 use lib.Bits.{bitAnd, bitOr, bitXor, and-shr, or-shr, xor-shr, and-mod, or-mod, xor-mod, and-lt}
 use borrow.Author.Tests.{ltb-true, ltb-false, lt-ltb, le-ltb, eq-eqb, ne-eqb, eqb-false}
 use Rattle.sets.specs.Bit.{bit}
-use Rattle.sets.proofs.Bools.{and-on, and-off, or-none}
 use Rattle.alc.specs.Meaning.{someBelow}
 
 abbrev differs : Bool → Bool → Bool
@@ -64,12 +62,7 @@ minus false b = refl
 pub bit-minus : (a b d : ℕ) → bit (bitAnd a (bitXor a b)) d ≡ (bit a d && not (bit b d))
 bit-minus a b d = bit-and a (bitXor a b) d ∙ ap (λ (t : Bool). bit a d && t) (bit-xor a b d) ∙ minus (bit a d) (bit b d)
 
--- in an array of zeros each set is empty
-pub zeros : (n k : ℕ) → _≡_ {A = ℕ} (getD (replicate n 0) k 0) 0
-zeros zero k = refl
-zeros (suc n) zero = refl
-zeros (suc n) (suc k) = zeros n k
-
+-- the empty set
 pub bit-zero : (d : ℕ) → bit 0 d ≡ false
 unfolding bit
 bit-zero d = rw (zero-div (2 ^ d))
@@ -176,5 +169,5 @@ module _ (f : ℕ → Bool) (out next d : ℕ) (b : Bool) (now : b ≡ f d)
   step e = marks e ∙ ap (λ (t : Bool). t || (b && eqb d e)) (before e) ∙ go (ℕ-discrete d e)
     where
       go : Dec (d ≡ e) → ((ltb e d && f e) || (b && eqb d e)) ≡ (ltb e (d + 1) && f e)
-      go (yes h) = rw (le-ltb e d (omega arith), lt-ltb e (d + 1) (omega arith), eq-eqb d e h) (and-on b ∙ now ∙ ap f h)
-      go (no h) = rw (ne-eqb d e h, and-off b, ltb-more e d (λ p. h (sym p))) (or-none (ltb e d && f e))
+      go (yes h) = rw (le-ltb e d (omega arith), lt-ltb e (d + 1) (omega arith), eq-eqb d e h) (and-true b ∙ now ∙ ap f h)
+      go (no h) = rw (ne-eqb d e h, and-false b, ltb-more e d (λ p. h (sym p))) (or-false (ltb e d && f e))

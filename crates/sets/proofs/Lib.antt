@@ -1,3 +1,2 @@
--- The laws behind the functions' proofs; callers have them too: `Bools` of Bool, `BitLaws` of the bits of a number.
-pub mod Bools
+-- The laws behind the functions' proofs; callers have them too: `BitLaws` of the bits of a number.
 pub mod BitLaws

@@ -29,9 +29,9 @@ use Rattle.alc.specs.Model.{places, has, edge}
 use Rattle.alc.specs.Shown.{records, Shows, tableOf}
 use Rattle.alc.specs.Verdict.{rows, after}
 use Rattle.alc.proofs.ShownLaws.{table-length}
+use Rattle.alc.proofs.Logic.{and-left, and-right, every-true}
 use Rattle.goals.specs.declared.Turn.{Turn}
 use Rattle.goals.specs.Records.{stepOf, Ruling, Turns}
-use Rattle.goals.proofs.RecordLaws.{below-at, and-left, and-right}
 use Rattle.goals.proofs.Steps.{ruleRows, Leaves, step-rows, number-shown, leaves-shown}
 use Rattle.heading.specs.Fields.{saidFields}
 use Rattle.heading.specs.Parts.{inSteps}
@@ -49,7 +49,7 @@ all-of-steps = refl
 
 pub step-word : (l : Line) → Told l → allowedAt 2 l ≡ true → (13 ≤ l .word) × (l .word < 32)
 unfolding of-steps
-step-word l t a = go (below-at of-steps wordCount all-of-steps (l .word) (t .known))
+step-word l t a = go (every-true of-steps wordCount all-of-steps (l .word) (t .known))
   where
     both : (leb 13 (l .word) && ltb (l .word) 32) ≡ true → (13 ≤ l .word) × (l .word < 32)
     both e = (leb-true 13 (l .word) (and-left (leb 13 (l .word)) (ltb (l .word) 32) e), ltb-true (l .word) 32 (and-right (leb 13 (l .word)) (ltb (l .word) 32) e))

@@ -18,10 +18,9 @@ use Rattle.extents.specs.Extent.{Extended}
 use Rattle.models.specs.Shown.{worldOf, interpShown, seatsOf, seatOf, isSeated, Below, Claimed, Seated}
 use Rattle.truth.specs.Truth.{truthIn, wrongIn}
 use Rattle.extents.proofs.ExtentLaws.{every-same}
-use Rattle.alc.proofs.ListFacts.{All-map}
+use Rattle.alc.proofs.ListFacts.{All-map, All-zip, every-All}
 use Rattle.extents.proofs.Trees.{below-more}
 use Rattle.truth.proofs.ClaimLaws.{placed-low}
-use Rattle.models.proofs.Goals.{every-All}
 
 -- in range of a table, in range of a longer one
 pub claimed-more : (n m : ℕ) (g : Records) → n ≤ m → Claimed n g → Claimed m g
@@ -33,10 +32,6 @@ claimed-more n m g l c = record {
 first-same : {A : Type 0} (p q : A → Bool) (l : List A) → All (λ x. p x ≡ q x) l → firstAt p l ≡ firstAt q l
 first-same p q [] h = refl
 first-same p q (x ∷ l) h = ap₂ (λ (b : Bool) (n : ℕ). cond b 0 (suc n)) (h .0) (first-same p q l (h .1))
-
-All-both : {A : Type 0} {P Q R : A → Type 0} → ((x : A) → P x → Q x → R x) → (l : List A) → All P l → All Q l → All R l
-All-both f [] h k = tt
-All-both f (x ∷ l) h k = (f x (h .0) (k .0), All-both f l (h .1) (k .1))
 
 module _ (size n : ℕ) (places atoms edges ext : List ℕ) (T : Table) (known : Extended ext n T (worldOf size atoms edges))
     (inside : (a : ℕ) → All (λ d. d < size) (seatsOf places a)) where
@@ -60,4 +55,4 @@ module _ (size n : ℕ) (places atoms edges ext : List ℕ) (T : Table) (known :
       → firstAt (wrongIn size ext places edges) (map sidedOf (records g)) ≡ firstAt (holdsBy T (interpShown size places atoms edges)) (map sidedOf (records g))
   first-differs g c s =
       first-same (wrongIn size ext places edges) (holdsBy T (interpShown size places atoms edges)) (map sidedOf (records g))
-      (All-both wrong-same (map sidedOf (records g)) (c .numbers) (every-All (λ t. every (isSeated places) (names (claim t))) (map sidedOf (records g)) (s .placed)))
+      (All-zip wrong-same (map sidedOf (records g)) (c .numbers) (every-All (λ t. every (isSeated places) (names (claim t))) (map sidedOf (records g)) (s .placed)))

@@ -3,7 +3,6 @@ use mathlib.Core.Path.{_≡_}
 use prog.Routine.{Env}
 use borrow.Fn.World.{World}
 use Rattle.room.proofs.Says.{Fun!, Knows}
-use Rattle.room.proofs as Q
 use Rattle.opening.proofs as O
 use Rattle.verdict.proofs as P
 
@@ -54,9 +53,3 @@ answer-in = record { name = P.answer_in.Symbol.name; n = 0; ps = P.answer_in.Kin
 
 pub answer-in! : (w : World) (γ : Env) → γ P.answer_in.Symbol.name ≡ P.answer_in.Symbol.routine → Knows answer-in w γ
 answer-in! w γ e = P.answer_in.Reads.known w γ P.answer_in.Symbol.name P.answer_in.Symbol.routine e (P.answer_in.Met.met (w .𝓤) (w .H) (w .𝓜) (w .𝓖) (w .𝓡))
-
-abbrev pub blank-claim : Fun!
-blank-claim = record { name = Q.blank_claim.Symbol.name; n = 0; ps = Q.blank_claim.Kinds.ps; r = Q.blank_claim.Kinds.r; P = Q.blank_claim.Reads.Asked; Q = Q.blank_claim.Reads.Learnt }
-
-pub blank-claim! : (w : World) (γ : Env) → γ Q.blank_claim.Symbol.name ≡ Q.blank_claim.Symbol.routine → Knows blank-claim w γ
-blank-claim! w γ e = Q.blank_claim.Reads.known w γ Q.blank_claim.Symbol.name Q.blank_claim.Symbol.routine e (Q.blank_claim.Met.met (w .𝓤) (w .H) (w .𝓜) (w .𝓖) (w .𝓡))

@@ -1,17 +1,16 @@
 -- `truth::placed` meets its contract: an `is` has one name, a `link` has two, a `sub` none. Assumes nothing.
-use mathlib.Core.Bool.{Bool, true, _&&_}
+use mathlib.Core.Bool.{Bool, true, _&&_, and-true}
 use mathlib.Core.Path.{_≡_, sym, ap, subst, _∙_}
 use denote.Ref.{now}
 use Rattle.alc.specs.Lists.{All, every}
 use Rattle.alc.specs.Claims.{Claim, claimFields, names}
 use Rattle.models.specs.Shown.{isSeated, Below}
-use Rattle.sets.proofs.Bools.{and-on}
 use Rattle.truth.proofs.ClaimLaws.{claim-is, claim-sub, claim-link}
 use Rattle.truth.proofs.placed.Statement.{statement}
 use Rattle.truth.proofs.placed.Tie as tie
 
 both : (x y : Bool) → x ≡ true → y ≡ (x && (y && true))
-both x y h = sym (rw h (and-on y))
+both x y h = sym (rw h (and-true y))
 
 seated-requires : tie.Need-seated-requires
 seated-requires c κs = subst (λ (d : Claim). All (Below 256 0) (claimFields d)) (claim-is (c .before .args .c) (c .if1 .taken)) (c .before .pre) .0
@@ -19,7 +18,7 @@ seated-requires c κs = subst (λ (d : Claim). All (Below 256 0) (claimFields d)
 returns : tie.Need-returns
 returns c =
     let a = c .before .before .args in
-    c .seated .ensures ∙ sym (and-on (isSeated (now (a .places)) (a .c .a .0))) ∙ sym (ap (λ (d : Claim). every (isSeated (now (a .places))) (names d)) (claim-is (a .c) (c .before .if1 .taken)))
+    c .seated .ensures ∙ sym (and-true (isSeated (now (a .places)) (a .c .a .0))) ∙ sym (ap (λ (d : Claim). every (isSeated (now (a .places))) (names d)) (claim-is (a .c) (c .before .if1 .taken)))
 
 returns-2 : tie.Need-returns-2
 returns-2 c = let a = c .before .before .args in sym (ap (λ (d : Claim). every (isSeated (now (a .places))) (names d)) (claim-sub (a .c) (c .before .if1 .left) (c .if2 .taken)))

@@ -12,12 +12,12 @@ use borrow.Rule.Scalar.{oBig}
 use Rattle.room.proofs.Says.{fun, Knows, knows}
 use Rattle.room.proofs.Walk.{Body!, Asks!, proved, tts, ref, _▸_, _▹_, clears, returns, repeats, lends-all, calls, backs-all}
 use Rattle.room.proofs.Claims.{claim}
+use Rattle.room.proofs.Covered as F
 use Rattle.derivation.proofs.Tables.{τ}
 use Rattle.alc.proofs.Claim as T
 use Rattle.alc.proofs.Claim.Laws as T′
 use Rattle.alc.specs.Verdict.{verdict}
 use Rattle.verdict.proofs as P
-use Rattle.verdict.proofs.Covered as F
 use Rattle.verdict.proofs.Tables as C
 use Rattle.verdict.proofs.Tables.{own}
 use Rattle.verdict.proofs.judge_here.Key.{name}
