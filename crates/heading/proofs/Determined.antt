@@ -1,30 +1,51 @@
 -- What the reading of the table and of the claims comes to is fixed by the text: two walks from one place are the same as far as both go, and what
 -- ends the one ends the other. Assumes nothing.
-use Prim.Native.Nat.{ℕ, suc, _≤_}
-use mathlib.Core.Bool.{cond}
+use Prim.Native.Nat.{ℕ, suc, _≤_, _<_}
+use mathlib.Core.Bool.{cond, decide-iff}
 use mathlib.Core.List.{List, map}
 use mathlib.Core.Logic.{_⊎_, inl, inr}
 use mathlib.Core.Path.{_≡_, refl, sym, ap, subst, _∙_}
 use native.Mathlib.Omega.{arith}
+use native.Mathlib.Decide.{decLt}
 use lib.Dec.{ltb}
-use borrow.Author.Tests.{lt-ltb, le-ltb}
+use lib.ListN.{length, getD}
+use borrow.Author.Tests.{lt-ltb, le-ltb, eqb-true}
 use Rattle.lines.specs.Walk.{readAt}
 use Rattle.lines.specs.declared.Line.{Line}
 use Rattle.lines.specs.declared.Next.{Next}
 use Rattle.lines.specs.declared.Next.the-variants.{Found, Bad, End}
 use Rattle.reading.proofs.Loop.{when-found}
 use Rattle.alc.specs.Rows.{refusal}
-use Rattle.alc.specs.Table.{Table}
+use Rattle.alc.specs.Table.{Table, Entry, Kind-discrete, entryOf}
+use Rattle.alc.specs.Table as Table
 use Rattle.alc.specs.Claims.{Sided}
 use Rattle.alc.specs.Dossier.{saying}
-use Rattle.alc.specs.Shown.{recordOf, records, tableOf}
+use Rattle.alc.specs.Shown.{recordOf, records, tableOf, kindAt}
 use Rattle.alc.specs.Verdict.{State, place, rows}
+use Rattle.alc.proofs.ShownLaws.{lineAt, table-length, table-at}
+use Rattle.goals.proofs.RecordLaws.{kind-same}
 use Rattle.heading.specs.declared.Listed.{Listed}
 use Rattle.heading.specs.declared.Heading.{Heading}
-use Rattle.heading.specs.Parts.{inTable, inClaims, Through, none, line, TableEnd, ClaimsEnd, ClaimsLead, TableRead, ClaimsRead}
+use Rattle.heading.specs.Parts.{inTable, inClaims, Through, none, line, TableEnd, ClaimsEnd, ClaimsLead, TableRead, ClaimsRead, Columns}
 use Rattle.heading.specs.Parts
 use Rattle.heading.proofs.Through.{Stuck, found-same, stage, Same, turn, out-of-table, through-on, through-either, both-last, both-stuck, apart}
 use Rattle.heading.proofs.Stops.{in-claims, claims-halts, claims-apart}
+
+-- columns with the same table have the same numbers in its lines, since the kinds of a line are one for each number below 8
+pub columns-once : {ks xs ys us vs ws : List ℕ} {n m : ℕ} → Columns ks xs ys n → Columns us vs ws m → tableOf ks xs ys n ≡ tableOf us vs ws m
+    → (i : ℕ) → i < n → (getD ks i 0 ≡ getD us i 0) × (getD xs i 0 ≡ getD vs i 0) × (getD ys i 0 ≡ getD ws i 0)
+columns-once {ks} {xs} {ys} {us} {vs} {ws} {n} {m} c d e i h =
+    let k : i < m = omega (arith, h, table-length ks xs ys n, ap (λ (T : Table). length T) e, table-length us vs ws m) in
+    let line : lineAt ks xs ys i ≡ lineAt us vs ws i = sym (table-at ks xs ys n i first h) ∙ ap (λ (T : Table). getD T i first) e ∙ table-at us vs ws m i first k in (
+      eqb-true (getD ks i 0) (getD us i 0)
+          (kind-same (getD ks i 0) (getD us i 0) (c .kinds i h) (d .kinds i k)
+          ∙ decide-iff (Kind-discrete (kindAt (getD us i 0)) (kindAt (getD ks i 0))) .1 (sym (ap (λ (x : Entry). x .kind) line))),
+      ap (λ (x : Entry). x .x) line,
+      ap (λ (x : Entry). x .y) line,
+    )
+  where
+    first : Entry
+    first = entryOf Table.top 0 0
 
 -- THE TABLE: its end has one number, and no line leads from it to another end
 tableNumber : Table → Next → ℕ
@@ -59,7 +80,7 @@ table-ended {text} T {a = a} {k = k} {S = S} {F = F} (line {next = to} {l = l} r
     go x j y Parts.over = let z : _≡_ {A = ℕ} 0 1 = cc in omega arith
 
 -- two readings of the table of one text are the same, and so are the tables
-module _ {text ks xs ys us vs ws : List ℕ} {r s : Listed} (t : TableRead text ks xs ys r) (u : TableRead text us vs ws s) where
+module _ {text ks₀ xs₀ ys₀ ks xs ys us vs ws : List ℕ} {r s : Listed} (t : TableRead text ks₀ xs₀ ys₀ ks xs ys r) (u : TableRead text ks₀ xs₀ ys₀ us vs ws s) where
   abbrev T : Table
   T = tableOf ks xs ys (r .count)
 
@@ -86,6 +107,17 @@ module _ {text ks xs ys us vs ws : List ℕ} {r s : Listed} (t : TableRead text 
           ∙ ap (λ (Z : Table). tableNumber Z (readAt text (r .at) 0)) one-table
           ∙ ap (λ (k : ℕ). tableNumber U (readAt text k 0)) (same-end .1)
           ∙ sym (table-number (u .ends))
+
+  -- and the columns, at every place
+  pub one-column : (i : ℕ) → (getD ks i 0 ≡ getD us i 0) × (getD xs i 0 ≡ getD vs i 0) × (getD ys i 0 ≡ getD ws i 0)
+  one-column i = go (decLt i (r .count))
+    where
+      go : Dec (i < r .count) → (getD ks i 0 ≡ getD us i 0) × (getD xs i 0 ≡ getD vs i 0) × (getD ys i 0 ≡ getD ws i 0)
+      go (yes h) = columns-once (t .columns) (u .columns) one-table i h
+      go (no h) =
+          let a = t .kept i (omega arith) in
+          let b = u .kept i (omega (arith, same-end .0)) in
+          (a .0 ∙ sym (b .0), a .1 ∙ sym (b .1), a .2 ∙ sym (b .2))
 
 -- THE CLAIMS: what refuses them has one number
 claimsNumber : Table → List Sided → Next → ℕ

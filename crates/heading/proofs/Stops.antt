@@ -177,7 +177,7 @@ claims-halts text T cs n at k x e Parts.over = record {
 }
 
 -- BEHIND THE TABLE
-module _ {text ks xs ys : List ℕ} {r : Listed} (t : TableRead text ks xs ys r) where
+module _ {text ks₀ xs₀ ys₀ ks xs ys : List ℕ} {r : Listed} (t : TableRead text ks₀ xs₀ ys₀ ks xs ys r) where
   abbrev T : Table
   T = tableOf ks xs ys (r .count)
 

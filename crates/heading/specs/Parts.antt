@@ -60,9 +60,15 @@ pub data TableEnd (T : Table) : Next → ℕ → Type 0 where
   other : {l : Line} {next : ℕ} → 8 ≤ l .word → TableEnd T (Found l next) 0
   over : TableEnd T End 0
 
--- what the reading of the table comes to: so many lines of the text are the columns' table, and what follows them has this number
-pub record TableRead (text ks xs ys : List ℕ) (r : Listed) : Type 0 where
+-- from place n on the columns hold what they held before
+abbrev pub Kept : ℕ → List ℕ → List ℕ → List ℕ → List ℕ → List ℕ → List ℕ → Type 0
+Kept n ks₀ xs₀ ys₀ ks xs ys = (i : ℕ) → n ≤ i → (getD ks i 0 ≡ getD ks₀ i 0) × (getD xs i 0 ≡ getD xs₀ i 0) × (getD ys i 0 ≡ getD ys₀ i 0)
+
+-- what the reading of the table comes to, with what the columns held before: so many lines of the text are the columns' table, behind it nothing has
+-- changed, and what follows the lines has this number
+pub record TableRead (text ks₀ xs₀ ys₀ ks xs ys : List ℕ) (r : Listed) : Type 0 where
   pub columns : Columns ks xs ys (r .count)
+  pub kept : Kept (r .count) ks₀ xs₀ ys₀ ks xs ys
   pub read : Through text 0 0 begin (r .count) (r .at) (inTable (tableOf ks xs ys (r .count)))
   pub ends : TableEnd (tableOf ks xs ys (r .count)) (readAt text (r .at) 0) (r .number)
 

@@ -6,7 +6,7 @@ use mathlib.Core.Bool.{false≢true}
 use mathlib.Core.List.{List, [], _∷_}
 use mathlib.Core.Path.{_≡_, refl, sym, ap, subst, _∙_}
 use native.Mathlib.Omega.{arith}
-use lib.ListN.{length, length-replicate}
+use lib.ListN.{length, getD, length-replicate}
 use borrow.Author.Tests.{lt-leb, le-leb}
 use Rattle.lines.specs.Text.{linesOf}
 use Rattle.alc.specs.Rows.{refusal}
@@ -14,7 +14,7 @@ use Rattle.alc.specs.Table.{Table}
 use Rattle.alc.specs.Claims.{Sided}
 use Rattle.alc.specs.Shown.{answered, Shows, tableOf}
 use Rattle.alc.specs.declared.Goal.{Goal as Records}
-use Rattle.heading.specs.Parts.{Columns}
+use Rattle.heading.specs.Parts.{Columns, Kept}
 use Rattle.heading.proofs.Through.{through-judge, through-bounds}
 use Rattle.states.specs.Standing.{begunOf, noCounts}
 use Rattle.states.specs.declared.State.{State}
@@ -22,7 +22,7 @@ use Rattle.steps.specs.Acting.{Fits, Ready, from}
 use Rattle.alc.specs.Verdict.{Verdict, refused, judge, begin, outerRows, verdict}
 use Rattle.alc.specs.declared.Answer.{Answer}
 use Rattle.alc.proofs.ListFacts.{zeros}
-use Rattle.opening.specs.Opened.{decidedOf, followingOf, Follows, Begins, Opens}
+use Rattle.opening.specs.Opened.{noColumn, decidedOf, followingOf, Follows, Begins, Unused, Opens}
 use Rattle.opening.specs.declared.Opening.{Opening}
 
 -- what follows the rows
@@ -41,9 +41,14 @@ pub verdict-short : (n : ℕ) (text : List ℕ) → 1088 ≤ n → length text �
 unfolding verdict
 verdict-short n text w h = let e : refusal (outerRows n text) ≡ 0 = rw (le-leb 1088 n w, le-leb (length text) 65535 h) in ap (next text) e
 
+-- a column that holds no line has no number
+no-number : (i : ℕ) → getD noColumn i 0 ≡ 0
+unfolding noColumn
+no-number i = zeros 256 i
+
 -- an opening after which no derivation follows
 pub opens-decided : (n : ℕ) (text : List ℕ) (o : Opening) (a : Answer)
-    → (o ≡ decidedOf a (o .kinds) (o .firsts) (o .seconds) (begunOf (o .state .goal) 0 0)) × (o .state .goal .count ≡ 0)
+    → (o ≡ decidedOf a (begunOf (o .state .goal) 0 0)) × (o .state .goal .count ≡ 0)
     → ((T : Table) (cs : List Sided) (lines at : ℕ) → Follows n text T cs lines at → ⊥) → answered a ≡ verdict n text → Opens n text o
 opens-decided n text o a e none h = record {
   decides = λ _. record {
@@ -54,18 +59,20 @@ opens-decided n text o a e none h = record {
     empty = e .1;
   };
   begins = λ f. absurd (false≢true (sym (ap (λ (p : Opening). p .follows) (e .0)) ∙ f));
+  unused = subst Unused (sym (e .0)) (λ i _. (no-number i, no-number i, no-number i));
 }
 
 -- an opening after which one does
 pub opens-following : (n : ℕ) (text : List ℕ) (o : Opening) (entries : ℕ) (ks xs ys : List ℕ) (claims : Records) (at lines : ℕ) (cs : List Sided)
     → o ≡ followingOf entries ks xs ys (begunOf claims at lines)
-    → Columns ks xs ys entries → Fits ks xs ys entries → claims .count ≤ 64 → Shows claims cs
+    → Columns ks xs ys entries → Kept entries noColumn noColumn noColumn ks xs ys → Fits ks xs ys entries → claims .count ≤ 64 → Shows claims cs
     → Follows n text (tableOf ks xs ys entries) cs lines at → Opens n text o
-opens-following n text o entries ks xs ys claims at lines cs e columns fits few shown follows = record {
+opens-following n text o entries ks xs ys claims at lines cs e columns kept fits few shown follows = record {
   decides = λ f. absurd (false≢true (sym f ∙ ap (λ (p : Opening). p .follows) e));
   begins = λ f.
       subst (Begins n text) (sym e)
       (record { answer = refl; columns = columns; fits = fits; state = refl; small = few; cs = cs; current = shown; follows = follows });
+  unused = subst Unused (sym e) (λ i h. let k = kept i h in (k .0 ∙ no-number i, k .1 ∙ no-number i, k .2 ∙ no-number i));
 }
 
 -- what an opening comes to after which a derivation follows: its first step can be read, and the verdict from there on is that of the text

@@ -4,7 +4,7 @@ use Prim.Native.Nat.{ℕ, _≤_}
 use mathlib.Core.Bool.{true, false}
 use mathlib.Core.List.{List, [], _∷_}
 use mathlib.Core.Path.{_≡_}
-use lib.ListN.{length}
+use lib.ListN.{length, getD, replicate}
 use Rattle.alc.specs.Table.{Table}
 use Rattle.alc.specs.Claims.{Sided}
 use Rattle.alc.specs.Shown.{Shows, tableOf, answered}
@@ -16,9 +16,13 @@ use Rattle.states.specs.declared.State.{State}
 use Rattle.steps.specs.Acting.{Fits}
 use Rattle.opening.specs.declared.Opening.{Opening}
 
+-- a column that holds no line. No abbreviation: it is not to be written out
+unfoldable pub noColumn : List ℕ
+noColumn = replicate 256 0
+
 -- no derivation follows
-abbrev pub decidedOf : Answer → List ℕ → List ℕ → List ℕ → State → Opening
-decidedOf a ks xs ys s = record { follows = false; answer = a; entries = 0; kinds = ks; firsts = xs; seconds = ys; state = s }
+abbrev pub decidedOf : Answer → State → Opening
+decidedOf a s = record { follows = false; answer = a; entries = 0; kinds = noColumn; firsts = noColumn; seconds = noColumn; state = s }
 
 -- a derivation follows
 abbrev pub followingOf : ℕ → List ℕ → List ℕ → List ℕ → State → Opening
@@ -50,7 +54,12 @@ pub record Decides (n : ℕ) (text : List ℕ) (o : Opening) : Type 0 where
   pub state : o .state ≡ begunOf (o .state .goal) 0 0
   pub empty : o .state .goal .count ≡ 0
 
+-- behind the lines of its table the columns are 0
+abbrev pub Unused : Opening → Type 0
+Unused o = (i : ℕ) → o .entries ≤ i → (getD (o .kinds) i 0 ≡ 0) × (getD (o .firsts) i 0 ≡ 0) × (getD (o .seconds) i 0 ≡ 0)
+
 -- the opening of a text with a lent room of n records
 pub record Opens (n : ℕ) (text : List ℕ) (o : Opening) : Type 0 where
   pub decides : o .follows ≡ false → Decides n text o
   pub begins : o .follows ≡ true → Begins n text o
+  pub unused : Unused o

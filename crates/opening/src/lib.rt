@@ -20,7 +20,7 @@ pub struct Opening {
 
 // No derivation follows.
 fn decided(answer: Answer) -> Opening
-    ensures { λ r. ⌜ (r ≡ decidedOf answer (r .kinds) (r .firsts) (r .seconds) (begunOf (r .state .goal) 0 0)) × (r .state .goal .count ≡ 0) ⌝ }
+    ensures { λ r. ⌜ (r ≡ decidedOf answer (begunOf (r .state .goal) 0 0)) × (r .state .goal .count ≡ 0) ⌝ }
 {
     Opening {
         follows: false,

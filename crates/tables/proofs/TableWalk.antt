@@ -27,7 +27,7 @@ use Rattle.alc.specs.Shown.{kindAt, tableOf}
 use Rattle.alc.specs.Verdict.{rows, after, begin}
 use Rattle.alc.proofs.ShownLaws.{table-length, table-more}
 use Rattle.heading.specs.Fields.{saidFields}
-use Rattle.heading.specs.Parts.{entryIn, entryRows, inTable, Columns, Through, none, TableEnd, failed, TableRead}
+use Rattle.heading.specs.Parts.{entryIn, entryRows, inTable, Columns, Kept, Through, none, TableEnd, failed, TableRead}
 use Rattle.heading.proofs.Small.{Small, small}
 use Rattle.heading.proofs.Through.{through-next}
 use Rattle.heading.proofs.TableLaws.{entry-said, said-entry}
@@ -49,20 +49,22 @@ module _ (T : Table) (few : length T ≤ 256) (l : Line) (t : Told l) (w : l .wo
           let e : every (inRange (length T) 0) (entryFields (entryOf (kindAt (l .word)) (l .n0) (l .n1))) ≡ false = ap (λ s. every (inRange (length T) 0) (saidFields s)) (sym plain) ∙ h in
           ap (λ s. refusal (rows (inTable T) s)) plain ∙ (rw (e, h))
 
--- the walk: n lines stored in the columns, the next at `at`
-pub record Walk (text ks xs ys : List ℕ) (at n : ℕ) : Type 0 where
+-- the walk: n lines stored in the columns, the next at `at`; behind them the columns are as at first
+pub record Walk (text ks₀ xs₀ ys₀ ks xs ys : List ℕ) (at n : ℕ) : Type 0 where
   pub columns : Columns ks xs ys n
+  pub kept : Kept n ks₀ xs₀ ys₀ ks xs ys
   pub so : Through text 0 0 begin n at (inTable (tableOf ks xs ys n))
 
-module _ (text ks xs ys : List ℕ) where
-  pub walk-begin : Walk text ks xs ys 0 0
+module _ (text ks₀ xs₀ ys₀ : List ℕ) where
+  pub walk-begin : Walk text ks₀ xs₀ ys₀ ks₀ xs₀ ys₀ 0 0
   unfolding tableOf
   walk-begin = record {
     columns = record { few = omega arith; kinds = λ i h. absurd (not-suc-le-zero h); ranges = λ i h. absurd (not-suc-le-zero h) };
+    kept = λ i h. (refl, refl, refl);
     so = none;
   }
 
-  module _ (at n : ℕ) (v : Walk text ks xs ys at n) where
+  module _ (ks xs ys : List ℕ) (at n : ℕ) (v : Walk text ks₀ xs₀ ys₀ ks xs ys at n) where
     abbrev T : Table
     T = tableOf ks xs ys n
 
@@ -70,8 +72,8 @@ module _ (text ks xs ys : List ℕ) where
     few = rw (table-length ks xs ys n) (v .columns .few)
 
     -- the walk stops
-    pub stops : (x : Next) (k : ℕ) → readAt text at 0 ≡ x → TableEnd T x k → TableRead text ks xs ys (record { number = k; at = at; count = n })
-    stops x k e d = record { columns = v .columns; read = v .so; ends = subst (λ y. TableEnd T y k) (sym e) d }
+    pub stops : (x : Next) (k : ℕ) → readAt text at 0 ≡ x → TableEnd T x k → TableRead text ks₀ xs₀ ys₀ ks xs ys (record { number = k; at = at; count = n })
+    stops x k e d = record { columns = v .columns; kept = v .kept; read = v .so; ends = subst (λ y. TableEnd T y k) (sym e) d }
 
     module _ (l : Line) (to : ℕ) (r : readAt text at 0 ≡ Found l to) where
       f : Line-found text at 0 l to
@@ -147,10 +149,19 @@ module _ (text ks xs ys : List ℕ) where
               range i h (yes q) = ap (λ j. every (inRange j 0) (entryFields (line ks′ xs′ ys′ j))) q ∙ ap (λ a. every (inRange n 0) (entryFields a)) new ∙ own
               range i h (no q) = ap (λ a. every (inRange i 0) (entryFields a)) (old i (omega arith)) ∙ v .columns .ranges i (omega arith)
 
-          pub walk-more : Walk text ks′ xs′ ys′ to (n + 1)
+          left : Kept (n + 1) ks₀ xs₀ ys₀ ks′ xs′ ys′
+          left i h =
+              let k = v .kept i (omega arith) in (
+                getD-set-other ks n i (l .word) 0 (omega arith) ∙ k .0,
+                getD-set-other xs n i (l .n0 % 256) 0 (omega arith) ∙ k .1,
+                getD-set-other ys n i (l .n1 % 256) 0 (omega arith) ∙ k .2,
+              )
+
+          pub walk-more : Walk text ks₀ xs₀ ys₀ ks′ xs′ ys′ to (n + 1)
           unfolding after
           walk-more = record {
             columns = more;
+            kept = left;
             so =
                 through-next (v .so) l to (inTable (tableOf ks′ xs′ ys′ (n + 1))) r (rows-entry T few l t w ∙ sym e)
                 (ap (after (inTable T)) (entry-said l t fits w)
@@ -159,5 +170,5 @@ module _ (text ks xs ys : List ℕ) where
 
           -- the same of what was stored
           pub walk-stored : (us vs ws : List ℕ) (k x y : ℕ) → us ≡ set ks n k → vs ≡ set xs n x → ws ≡ set ys n y → k ≡ l .word → x ≡ l .n0 % 256 → y ≡ l .n1 % 256
-              → Walk text us vs ws to (n + 1)
+              → Walk text ks₀ xs₀ ys₀ us vs ws to (n + 1)
           walk-stored us vs ws k x y p q r a b c = rw (p, q, r, a, b, c) walk-more

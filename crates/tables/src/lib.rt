@@ -88,14 +88,14 @@ fn put(column: &mut [u8], i: usize, x: u8)
     column[i] = x;
 }
 
-// Reads the table into its columns, up to the first line that is not of it.
+// Reads the table into its columns, up to the first line that is not of it. Behind its lines the columns stay as they are.
 pub fn read_table(
     text: &[u8],
     kinds: &mut [u8; 256],
     firsts: &mut [u8; 256],
     seconds: &mut [u8; 256],
 ) -> Listed
-    ensures { λ r. ⌜ TableRead (now (text .entry)) (now (kinds .exit)) (now (firsts .exit)) (now (seconds .exit)) r ⌝ }
+    ensures { λ r. ⌜ TableRead (now (text .entry)) (now (kinds .entry)) (now (firsts .entry)) (now (seconds .entry)) (now (kinds .exit)) (now (firsts .exit)) (now (seconds .exit)) r ⌝ }
 {
     let mut at = 0;
     let mut n: usize = 0;

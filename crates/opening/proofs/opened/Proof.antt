@@ -20,7 +20,7 @@ use Rattle.alc.proofs.ShownLaws.{table-length, all-back}
 use Rattle.heading.specs.Parts.{inClaims, TableRead, ClaimsRead}
 use Rattle.heading.proofs.Through.{through-judge, through-bounds}
 use Rattle.heading.proofs.Stops.{table-refused, table-left, table-then, table-behind, table-apart, claims-bounds, claims-refused, claims-proof, claims-model, claims-apart}
-use Rattle.opening.specs.Opened.{followingOf, Follows}
+use Rattle.opening.specs.Opened.{noColumn, followingOf, Follows}
 use Rattle.opening.proofs.Begins.{verdict-narrow, verdict-long, verdict-short, opens-decided, opens-following}
 use Rattle.opening.proofs.opened.Statement.{statement}
 use Rattle.opening.proofs.opened.Tie as tie
@@ -51,7 +51,8 @@ xs t = t .read-table .last .1 .1 .0
 abbrev ys : tie.After-read-table → List ℕ
 ys t = t .read-table .last .1 .1 .1 .0
 
-table : (t : tie.After-read-table) → TableRead (text t) (ks t) (xs t) (ys t) (t .read-table .result)
+table : (t : tie.After-read-table) → TableRead (text t) noColumn noColumn noColumn (ks t) (xs t) (ys t) (t .read-table .result)
+unfolding noColumn
 table t = t .read-table .ensures
 
 short : (t : tie.After-read-table) → length (text t) ≤ 65535
@@ -150,7 +151,7 @@ returns-6 c =
     let k = M f in
     let h = claims k in
     opens-following _ _ _ _ (ks (T k)) (xs (T k)) (ys (T k)) _ _ _ (h .cs)
-    (c .following .ensures .0 ∙ ap (followingOf _ (ks (T k)) (xs (T k)) (ys (T k))) (c .before .begun .ensures)) (table (T k) .columns) (c .following .ensures .1) (h .few) (h .shown)
+    (c .following .ensures .0 ∙ ap (followingOf _ (ks (T k)) (xs (T k)) (ys (T k))) (c .before .begun .ensures)) (table (T k) .columns) (table (T k) .kept) (c .following .ensures .1) (h .few) (h .shown)
     (record { wide = wide (T k); short = short (T k); walk = table-then (table (T k)) (claims-proof (h .leads) (c .before .before .if5 .left)) (omega arith) })
 
 pub opened-spec : {M : Type 1} → statement M

@@ -19,7 +19,7 @@ use Rattle.tables.proofs.read_table.Tie as tie
 
 abbrev Inv-loop : tie.InvT-loop
 Inv-loop text kinds₀ firsts₀ seconds₀ at₀ n₀ kinds firsts seconds at n =
-    Walk text kinds firsts seconds at n
+    Walk text kinds₀ firsts₀ seconds₀ kinds firsts seconds at n
 
 abbrev μ-loop : tie.MeasureT-loop
 μ-loop text kinds₀ firsts₀ seconds₀ at₀ n₀ kinds firsts seconds at n = length text - at
@@ -47,7 +47,7 @@ returns : tie.Need-returns Inv-loop μ-loop
 returns c =
     let l = c .before .before .before in
     let a = A l in
-    stops _ _ _ _ _ _ (a .loop .inv) _ 0 (found l) (other (c .if1 .taken))
+    stops _ _ _ _ _ _ _ _ _ (a .loop .inv) _ 0 (found l) (other (c .if1 .taken))
 
 entry-refusal-requires : tie.Need-entry-refusal-requires Inv-loop μ-loop
 entry-refusal-requires c κs =
@@ -61,7 +61,7 @@ returns-2 c =
     let e = r .before .before .before .before in
     let l = e .before .before .before in
     let a = A l in
-    stops _ _ _ _ _ _ (a .loop .inv) _ _ (found l) (fails _ _ _ _ _ _ (a .loop .inv) _ _ (found l) _ (e .if1 .left) (r .entry-refusal .ensures) (c .if2 .taken))
+    stops _ _ _ _ _ _ _ _ _ (a .loop .inv) _ _ (found l) (fails _ _ _ _ _ _ _ _ _ (a .loop .inv) _ _ (found l) _ (e .if1 .left) (r .entry-refusal .ensures) (c .if2 .taken))
 
 made-entry-requires : tie.Need-made-entry-requires Inv-loop μ-loop
 made-entry-requires c κs = search needs
@@ -78,7 +78,7 @@ passed : (c : tie.After-made-entry Inv-loop μ-loop)
 passed c = sym (c .before .if2 .left) ∙ c .before .before .entry-refusal .ensures
 
 space : (c : tie.After-made-entry Inv-loop μ-loop) → A (L c) .loop .n < 256
-space c = room _ _ _ _ _ _ (A (L c) .loop .inv) _ _ (found (L c)) (F c .if1 .left) (passed c)
+space c = room _ _ _ _ _ _ _ _ _ (A (L c) .loop .inv) _ _ (found (L c)) (F c .if1 .left) (passed c)
 
 put-requires : tie.Need-put-requires Inv-loop μ-loop
 put-requires c κs = (search needs, space (c .before))
@@ -106,7 +106,7 @@ loop-again c =
     let q = c .before .before .put2 .ensures in
     let r = c .put3 .ensures in
     let e = m .made-entry .ensures in
-    walk-stored _ _ _ _ _ _ (A l .loop .inv) _ _ (found l) (F m .if1 .left) (passed m) (p .1) (q .1) (r .1) _ _ _ _ _ _ (p .0) (q .0) (r .0) (e .0) (e .1) (e .2)
+    walk-stored _ _ _ _ _ _ _ _ _ (A l .loop .inv) _ _ (found l) (F m .if1 .left) (passed m) (p .1) (q .1) (r .1) _ _ _ _ _ _ (p .0) (q .0) (r .0) (e .0) (e .1) (e .2)
 
 enum-told : tie.Need-enum-told Inv-loop μ-loop
 enum-told c = search needs
@@ -114,7 +114,7 @@ enum-told c = search needs
 returns-3 : tie.Need-returns-3 Inv-loop μ-loop
 returns-3 c =
     let a = c .before .before .before in
-    stops _ _ _ _ _ _ (a .loop .inv) _ 2 (sym (c .before .before .read .ensures) ∙ c .enum-told .given .1) wrong
+    stops _ _ _ _ _ _ _ _ _ (a .loop .inv) _ 2 (sym (c .before .before .read .ensures) ∙ c .enum-told .given .1) wrong
 
 enum-told-2 : tie.Need-enum-told-2 Inv-loop μ-loop
 enum-told-2 c = search needs
@@ -122,7 +122,7 @@ enum-told-2 c = search needs
 returns-4 : tie.Need-returns-4 Inv-loop μ-loop
 returns-4 c =
     let a = c .before .before .before in
-    stops _ _ _ _ _ _ (a .loop .inv) _ 0 (sym (c .before .before .read .ensures) ∙ c .enum-told2 .given .1) over
+    stops _ _ _ _ _ _ _ _ _ (a .loop .inv) _ 0 (sym (c .before .before .read .ensures) ∙ c .enum-told2 .given .1) over
 
 pub read-table-spec : {M : Type 1} → statement M
 read-table-spec =
