@@ -44,6 +44,10 @@ sidedOf c = cond (eqb (c .side) 1) (left (claimOf c)) (right (claimOf c))
 abbrev pub records : Records → List Record
 records g = take (g .count) (g .claims)
 
+-- the claims of a goal's records
+abbrev pub claimsIn : Records → List Sided
+claimsIn g = map sidedOf (records g)
+
 -- the goal's records are those of these claims
 abbrev pub Shows : Records → List Sided → Type 0
 Shows g cs = records g ≡ map recordOf cs

@@ -5,7 +5,7 @@ use native.Mathlib.Omega.{arith}
 use native.Mathlib.Numerals.{add-one}
 use native.Mathlib.Decide.{decLt}
 use mathlib.Core.Bool.{Bool, true, false, cond}
-use mathlib.Core.List.{List, [], _∷_, map}
+use mathlib.Core.List.{List, [], _∷_}
 use mathlib.Core.Path.{_≡_, refl, sym, ap, subst, _∙_}
 use lib.ListN.{length, getD, drop, length-map, List·getD-eq-default}
 use lib.Seq.{length-take-le}
@@ -26,11 +26,11 @@ use Rattle.alc.specs.Meaning.{Interp}
 use Rattle.alc.specs.Claims.{Sided, claim, claimFields, holdsBy}
 use Rattle.alc.specs.Model.{Fact, interpOf, allPlaced}
 use Rattle.alc.specs.Dossier.{saying, size}
-use Rattle.alc.specs.Shown.{Shows, kindAt, sidedOf, records, tableOf}
+use Rattle.alc.specs.Shown.{kindAt, sidedOf, records, claimsIn, tableOf}
 use Rattle.alc.specs.Verdict.{refuted, refused, rows, after, ending, modelled, judge}
 use Rattle.alc.specs.declared.Goal.{Goal as Records}
 use Rattle.alc.proofs.Goal.{the-type}
-use Rattle.alc.proofs.ShownLaws.{table-length, table-at, all-back}
+use Rattle.alc.proofs.ShownLaws.{table-length, table-at}
 use Rattle.heading.specs.Fields.{saidFields}
 use Rattle.heading.specs.Parts.{Columns, atStart}
 use Rattle.heading.proofs.Small.{small}
@@ -66,34 +66,29 @@ module _ (ks xs ys : List ℕ) (n : ℕ) (c : Columns ks xs ys n) where
   pub tabled : Tabled ks xs ys n
   tabled = record { few = c .few; ranged = ranged }
 
-pub claimed : (n : ℕ) (g : Records) → g .count ≤ 64 → All (λ s. every (inRange n 0) (claimFields (claim s)) ≡ true) (map sidedOf (records g)) → Claimed n g
-claimed n g few h = record { few = few; numbers = All-map (λ s. in-range n 0 (claimFields (claim s))) (map sidedOf (records g)) h }
+pub claimed : (n : ℕ) (g : Records) → g .count ≤ 64 → All (λ s. every (inRange n 0) (claimFields (claim s)) ≡ true) (claimsIn g) → Claimed n g
+claimed n g few h = record { few = few; numbers = All-map (λ s. in-range n 0 (claimFields (claim s))) (claimsIn g) h }
 
--- the claims that a goal shows
-module _ (g : Records) (cs : List Sided) (s : Shows g cs) where
-  pub shown : map sidedOf (records g) ≡ cs
-  shown = ap (map sidedOf) s ∙ all-back cs
-
-  pub shown-length : (vs : List Val) → Is (row the-type) g vs → g .count ≤ 64 → length cs ≡ g .count
-  shown-length vs p few =
-      ap length (sym shown) ∙ length-map (records g) sidedOf ∙ length-take-le (g .count) (g .claims) (omega (arith, goal-length g vs p))
+-- the claims are as many as the goal has
+pub claims-length : (g : Records) (vs : List Val) → Is (row the-type) g vs → g .count ≤ 64 → length (claimsIn g) ≡ g .count
+claims-length g vs p few = length-map (records g) sidedOf ∙ length-take-le (g .count) (g .claims) (omega (arith, goal-length g vs p))
 
 -- the end
-module _ (n : ℕ) (T : Table) (k : ℕ) (fs : List Fact) (ps ats es : List ℕ) (t : Tells k fs ps ats es) (g : Records) (cs : List Sided) (s : Shows g cs) where
-  placed : (b : Bool) → b ≡ allSeated ps (map sidedOf (records g)) → b ≡ allPlaced fs cs
-  placed b e = e ∙ told-placed k fs ps ats es t (map sidedOf (records g)) ∙ ap (allPlaced fs) (shown g cs s)
+module _ (n : ℕ) (T : Table) (k : ℕ) (fs : List Fact) (ps ats es : List ℕ) (t : Tells k fs ps ats es) (cs : List Sided) where
+  placed : (b : Bool) → b ≡ allSeated ps cs → b ≡ allPlaced fs cs
+  placed b e = e ∙ told-placed k fs ps ats es t cs
 
-  pub unplaced : (b : Bool) → b ≡ allSeated ps (map sidedOf (records g)) → b ≡ false → refused 12 (n + 1) ≡ modelled n (inFacts T cs k fs)
+  pub unplaced : (b : Bool) → b ≡ allSeated ps cs → b ≡ false → refused 12 (n + 1) ≡ modelled n (inFacts T cs k fs)
   unplaced b e z =
       let q : allPlaced fs cs ≡ false = sym (placed b e) ∙ z in
       rw (q, add-one n)
 
-  module _ (b : Bool) (e : b ≡ allSeated ps (map sidedOf (records g))) (y : b ≡ true) (w : ℕ) (f : w ≡ firstAt (holdsBy T (interpShown k ps ats es)) (map sidedOf (records g))) where
+  module _ (b : Bool) (e : b ≡ allSeated ps cs) (y : b ≡ true) (w : ℕ) (f : w ≡ firstAt (holdsBy T (interpShown k ps ats es)) cs) where
     all : allPlaced fs cs ≡ true
     all = sym (placed b e) ∙ y
 
     first : firstAt (holdsBy T (interpOf k fs)) cs ≡ w
-    first = sym (f ∙ ap (λ (I : Interp). firstAt (holdsBy T I) (map sidedOf (records g))) (told-interp k fs ps ats es t) ∙ ap (firstAt (holdsBy T (interpOf k fs))) (shown g cs s))
+    first = sym (f ∙ ap (λ (I : Interp). firstAt (holdsBy T I) cs) (told-interp k fs ps ats es t))
 
     pub wrong-claim : (m : ℕ) → length T ≡ m → w < length cs → refused 13 (m + w + 1) ≡ modelled n (inFacts T cs k fs)
     wrong-claim m long h =

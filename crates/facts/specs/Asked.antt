@@ -2,7 +2,7 @@
 -- Assumes nothing.
 use Prim.Native.Nat.{ℕ, _≤_, _%_}
 use mathlib.Core.Bool.{Bool, true, not, cond}
-use mathlib.Core.List.{List, [], _∷_, _++_, map}
+use mathlib.Core.List.{List, [], _∷_, _++_}
 use mathlib.Core.Path.{_≡_}
 use lib.Dec.{eqb}
 use lib.ListN.{length}
@@ -12,7 +12,7 @@ use Rattle.alc.specs.Ranges.{inRange}
 use Rattle.alc.specs.Table.{Table}
 use Rattle.alc.specs.Claims.{Sided, claim, claimFields}
 use Rattle.alc.specs.Model.{Fact, places, has, edge, repeats}
-use Rattle.alc.specs.Shown.{sidedOf, records}
+use Rattle.alc.specs.Shown.{claimsIn}
 use Rattle.alc.specs.declared.Goal.{Goal as Records}
 use Rattle.alc.specs.Verdict.{State, facts}
 use Rattle.heading.specs.Parts.{Columns}
@@ -24,7 +24,7 @@ pub record Asked (text : List ℕ) (start before : ℕ) (ks xs ys : List ℕ) (e
   pub counted : before ≤ start
   pub columns : Columns ks xs ys entries
   pub few : g .count ≤ 64
-  pub ranges : All (λ s. every (inRange entries 0) (claimFields (claim s)) ≡ true) (map sidedOf (records g))
+  pub ranges : All (λ s. every (inRange entries 0) (claimFields (claim s)) ≡ true) (claimsIn g)
 
 -- the state in the facts of a model of k elements
 abbrev pub inFacts : Table → List Sided → ℕ → List Fact → State

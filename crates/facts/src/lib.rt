@@ -18,9 +18,8 @@ ghost use Prim.Native.Nat.{ℕ, _<_, _≤_};
 ghost use lib.ListN.{length, drop};
 ghost use Rattle.lines.specs.Text.{linesOf};
 ghost use Rattle.alc.specs.Lists.{All};
-ghost use Rattle.alc.specs.Claims.{Sided};
 ghost use Rattle.alc.specs.Model.{Fact, factFields};
-ghost use Rattle.alc.specs.Shown.{Shows, answered, tableOf};
+ghost use Rattle.alc.specs.Shown.{claimsIn, answered, tableOf};
 ghost use Rattle.alc.specs.Verdict.{judge, modelled};
 ghost use Rattle.heading.specs.Parts.{atStart};
 ghost use Rattle.sets.specs.Bit.{Sized};
@@ -121,7 +120,7 @@ fn ended(
     requires { ⌜ Sized size ⌝ }
     requires { ⌜ Claimed entries claims ⌝ }
     requires { ⌜ ((a : ℕ) → All (λ d. d < size) (seatsOf (now places) a)) ⌝ }
-    ensures { λ r. ⌜ ((fs : List Fact) (cs : List Sided) → Tells size fs (now (places .entry)) (now (atoms .entry)) (now (edges .entry)) → Shows claims cs → answered r ≡ modelled n (inFacts (tableOf (now (kinds .entry)) (now (firsts .entry)) (now (seconds .entry)) entries) cs size fs)) ⌝ }
+    ensures { λ r. ⌜ ((fs : List Fact) → Tells size fs (now (places .entry)) (now (atoms .entry)) (now (edges .entry)) → answered r ≡ modelled n (inFacts (tableOf (now (kinds .entry)) (now (firsts .entry)) (now (seconds .entry)) entries) (claimsIn claims) size fs)) ⌝ }
 {
     if !truth::all_placed(claims, places) {
         return Answer::Refused(12, n + 1);
@@ -157,7 +156,7 @@ fn judge_facts(
 ) -> Answer
     requires { ⌜ Asked (now text) start before (now kinds) (now firsts) (now seconds) entries claims ⌝ }
     requires { ⌜ Sized size ⌝ }
-    ensures { λ r. ⌜ ((cs : List Sided) → Shows claims cs → answered r ≡ judge before (inFacts (tableOf (now (kinds .entry)) (now (firsts .entry)) (now (seconds .entry)) entries) cs size []) (linesOf (drop start (now (text .entry))))) ⌝ }
+    ensures { λ r. ⌜ answered r ≡ judge before (inFacts (tableOf (now (kinds .entry)) (now (firsts .entry)) (now (seconds .entry)) entries) (claimsIn claims) size []) (linesOf (drop start (now (text .entry)))) ⌝ }
 {
     let mut places = [0u8; 64];
     let mut atoms = [0u32; 64];
@@ -201,7 +200,7 @@ pub fn judge_model(
     claims: Goal,
 ) -> Answer
     requires { ⌜ Asked (now text) start before (now kinds) (now firsts) (now seconds) entries claims ⌝ }
-    ensures { λ r. ⌜ ((cs : List Sided) → Shows claims cs → answered r ≡ judge before (atStart (tableOf (now (kinds .entry)) (now (firsts .entry)) (now (seconds .entry)) entries) cs) (linesOf (drop start (now (text .entry))))) ⌝ }
+    ensures { λ r. ⌜ answered r ≡ judge before (atStart (tableOf (now (kinds .entry)) (now (firsts .entry)) (now (seconds .entry)) entries) (claimsIn claims)) (linesOf (drop start (now (text .entry)))) ⌝ }
 {
     match reading::read(text, start, AT_SIZE) {
         Next::Found(l, next) => {

@@ -5,7 +5,7 @@ use native.Mathlib.Omega.{arith}
 use native.Mathlib.Nat.{zero-add}
 use native.Mathlib.Numerals.{add-one}
 use mathlib.Core.Bool.{Bool, true, false, cond}
-use mathlib.Core.List.{List, [], _∷_, map}
+use mathlib.Core.List.{List, [], _∷_}
 use mathlib.Core.Path.{_≡_, refl, sym, ap, subst, _∙_}
 use lib.Dec.{eqb}
 use lib.ListN.{length, getD, drop, length-map, List·getD-map}
@@ -15,7 +15,7 @@ use denote.Laws.{Is}
 use denote.Struct.Declared.{row}
 use Rattle.alc.specs.Lists.{All, every, firstAt}
 use Rattle.alc.specs.Claims.{Claim, Sided, left, right, claim, claimFields, names}
-use Rattle.alc.specs.Shown.{claimOf, sidedOf, records, blank}
+use Rattle.alc.specs.Shown.{claimOf, sidedOf, records, blank, claimsIn}
 use Rattle.alc.specs.declared.Claim.{Claim as Record}
 use Rattle.alc.specs.declared.Goal.{Goal as Records}
 use Rattle.alc.proofs.Goal.{the-type}
@@ -34,23 +34,23 @@ claim-back c = go (eqb (c .side) 1)
     go false = refl
 
 module _ (g : Records) (few : g .count ≤ 64) (long : length (g .claims) ≡ 64) where
-  count-is : length (map sidedOf (records g)) ≡ g .count
+  count-is : length (claimsIn g) ≡ g .count
   count-is = length-map (records g) sidedOf ∙ length-take-le (g .count) (g .claims) (omega arith)
 
-  at : (k : ℕ) → k < g .count → getD (map sidedOf (records g)) k (sidedOf blank) ≡ sidedOf (getD (g .claims) k blank)
+  at : (k : ℕ) → k < g .count → getD (claimsIn g) k (sidedOf blank) ≡ sidedOf (getD (g .claims) k blank)
   at k h = List·getD-map sidedOf (records g) k blank ∙ ap sidedOf (getD-take (g .count) (g .claims) k blank h)
 
   -- from the k-th claim on; behind the last there is none
-  pub from : (k : ℕ) → k < g .count → drop k (map sidedOf (records g)) ≡ sidedOf (getD (g .claims) k blank) ∷ drop (k + 1) (map sidedOf (records g))
-  from k h = drop-cons (map sidedOf (records g)) k (sidedOf blank) (omega (arith, count-is)) ∙ rw (add-one k) (ap (λ (s : Sided). s ∷ drop (suc k) (map sidedOf (records g))) (at k h))
+  pub from : (k : ℕ) → k < g .count → drop k (claimsIn g) ≡ sidedOf (getD (g .claims) k blank) ∷ drop (k + 1) (claimsIn g)
+  from k h = drop-cons (claimsIn g) k (sidedOf blank) (omega (arith, count-is)) ∙ rw (add-one k) (ap (λ (s : Sided). s ∷ drop (suc k) (claimsIn g)) (at k h))
 
-  pub behind : drop (g .count) (map sidedOf (records g)) ≡ []
-  behind = ap (λ (n : ℕ). drop n (map sidedOf (records g))) (sym count-is) ∙ drop-length (map sidedOf (records g))
+  pub behind : drop (g .count) (claimsIn g) ≡ []
+  behind = ap (λ (n : ℕ). drop n (claimsIn g)) (sym count-is) ∙ drop-length (claimsIn g)
 
-  pub claim-at : (P : Claim → Type 0) → All (λ s. P (claim s)) (map sidedOf (records g)) → (k : ℕ) → k < g .count → P (claimOf (getD (g .claims) k blank))
+  pub claim-at : (P : Claim → Type 0) → All (λ s. P (claim s)) (claimsIn g) → (k : ℕ) → k < g .count → P (claimOf (getD (g .claims) k blank))
   claim-at P h k l =
       subst P (ap claim (at k l) ∙ claim-back (getD (g .claims) k blank))
-      (All-at (sidedOf blank) (λ s. P (claim s)) (map sidedOf (records g)) h k (omega (arith, count-is)))
+      (All-at (sidedOf blank) (λ s. P (claim s)) (claimsIn g) h k (omega (arith, count-is)))
 
 pub fit-at : (g : Records) (n : ℕ) (places : List ℕ) → length (g .claims) ≡ 64 → Claimed 256 g → Seated n places g → (k : ℕ) → k < g .count → Fit n places (claimOf (getD (g .claims) k blank))
 fit-at g n places long c s k l = record {
@@ -58,7 +58,7 @@ fit-at g n places long c s k l = record {
   placed =
       let d = claimOf (getD (g .claims) k blank) in
       every-All (isSeated places) (names d)
-      (claim-at g (c .few) long (λ d. every (isSeated places) (names d) ≡ true) (every-All (λ t. every (isSeated places) (names (claim t))) (map sidedOf (records g)) (s .placed)) k l);
+      (claim-at g (c .few) long (λ d. every (isSeated places) (names d) ≡ true) (every-All (λ t. every (isSeated places) (names (claim t))) (claimsIn g) (s .placed)) k l);
   inside = s .inside;
 }
 

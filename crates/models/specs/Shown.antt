@@ -3,7 +3,7 @@
 -- Assumes nothing.
 use Prim.Native.Nat.{ℕ, zero, suc, _+_, _*_, _≤_, _<_}
 use mathlib.Core.Bool.{Bool, true, not, cond, _&&_, _||_}
-use mathlib.Core.List.{List, [], _∷_, map}
+use mathlib.Core.List.{List, [], _∷_}
 use mathlib.Core.Path.{_≡_}
 use lib.Dec.{eqb, ltb}
 use lib.ListN.{getD}
@@ -12,7 +12,7 @@ use Rattle.alc.specs.Ranges.{Field, role, atom, name, element, size, concept}
 use Rattle.alc.specs.Meaning.{World, Interp}
 use Rattle.alc.specs.Table.{Table, entry, entryFields}
 use Rattle.alc.specs.Claims.{Claim, Sided, claim, claimFields, names}
-use Rattle.alc.specs.Shown.{sidedOf, records, tableOf}
+use Rattle.alc.specs.Shown.{tableOf, claimsIn}
 use Rattle.alc.specs.declared.Goal.{Goal as Records}
 use Rattle.sets.specs.Bit.{bit, Sized}
 
@@ -102,11 +102,11 @@ pub record Tabled (ks xs ys : List ℕ) (n : ℕ) : Type 0 where
 -- up to 64 claims, with their numbers in range of a table of n lines
 pub record Claimed (n : ℕ) (g : Records) : Type 0 where
   pub few : g .count ≤ 64
-  pub numbers : All (λ s. All (Below n 0) (claimFields (claim s))) (map sidedOf (records g))
+  pub numbers : All (λ s. All (Below n 0) (claimFields (claim s))) (claimsIn g)
 
 -- every name in the claims is placed, and each name that is placed is at one of n elements
 pub record Seated (n : ℕ) (places : List ℕ) (g : Records) : Type 0 where
-  pub placed : allSeated places (map sidedOf (records g)) ≡ true
+  pub placed : allSeated places (claimsIn g) ≡ true
   pub inside : (a : ℕ) → All (λ d. d < n) (seatsOf places a)
 
 -- what the table, the size, the places and the claims are asked to be

@@ -3,7 +3,7 @@
 -- Assumes nothing.
 use Prim.Native.Nat.{ℕ, suc, _≤_, _<_}
 use mathlib.Core.Bool.{Bool, true, not, cond, _||_}
-use mathlib.Core.List.{List, [], _∷_, map}
+use mathlib.Core.List.{List, [], _∷_}
 use mathlib.Core.Path.{_≡_, refl, ap, ap₂, _∙_}
 use lib.ListN.{getD}
 use borrow.Author.Tests.{lt-ltb}
@@ -11,7 +11,7 @@ use Rattle.alc.specs.Lists.{All, every, firstAt}
 use Rattle.alc.specs.Meaning.{member}
 use Rattle.alc.specs.Table.{Table, treeOf}
 use Rattle.alc.specs.Claims.{Claim, is, sub, link, Sided, left, right, claim, claimFields, names, truth, holdsBy}
-use Rattle.alc.specs.Shown.{sidedOf, records}
+use Rattle.alc.specs.Shown.{claimsIn}
 use Rattle.alc.specs.declared.Goal.{Goal as Records}
 use Rattle.sets.specs.Bit.{bit}
 use Rattle.extents.specs.Extent.{Extended}
@@ -26,7 +26,7 @@ use Rattle.truth.proofs.ClaimLaws.{placed-low}
 pub claimed-more : (n m : ℕ) (g : Records) → n ≤ m → Claimed n g → Claimed m g
 claimed-more n m g l c = record {
   few = c .few;
-  numbers = All-map (λ s h. All-map (below-more n m 0 l) (claimFields (claim s)) h) (map sidedOf (records g)) (c .numbers);
+  numbers = All-map (λ s h. All-map (below-more n m 0 l) (claimFields (claim s)) h) (claimsIn g) (c .numbers);
 }
 
 first-same : {A : Type 0} (p q : A → Bool) (l : List A) → All (λ x. p x ≡ q x) l → firstAt p l ≡ firstAt q l
@@ -52,7 +52,7 @@ module _ (size n : ℕ) (places atoms edges ext : List ℕ) (T : Table) (known :
   wrong-same (right c) h p = truth-same c h (every-All (isSeated places) (names c) p)
 
   pub first-differs : (g : Records) → Claimed n g → Seated size places g
-      → firstAt (wrongIn size ext places edges) (map sidedOf (records g)) ≡ firstAt (holdsBy T (interpShown size places atoms edges)) (map sidedOf (records g))
+      → firstAt (wrongIn size ext places edges) (claimsIn g) ≡ firstAt (holdsBy T (interpShown size places atoms edges)) (claimsIn g)
   first-differs g c s =
-      first-same (wrongIn size ext places edges) (holdsBy T (interpShown size places atoms edges)) (map sidedOf (records g))
-      (All-zip wrong-same (map sidedOf (records g)) (c .numbers) (every-All (λ t. every (isSeated places) (names (claim t))) (map sidedOf (records g)) (s .placed)))
+      first-same (wrongIn size ext places edges) (holdsBy T (interpShown size places atoms edges)) (claimsIn g)
+      (All-zip wrong-same (claimsIn g) (c .numbers) (every-All (λ t. every (isSeated places) (names (claim t))) (claimsIn g) (s .placed)))

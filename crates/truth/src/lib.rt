@@ -6,12 +6,11 @@ use sets::outside;
 use sets::set_of;
 ghost use mathlib.Core.Path.{_≡_};
 ghost use mathlib.Core.Bool.{true, _||_, not};
-ghost use mathlib.Core.List.{map};
 ghost use Prim.Native.Nat.{_<_};
 ghost use Rattle.alc.specs.Lists.{All, every, firstAt};
 ghost use Rattle.alc.specs.Meaning.{everyBelow};
 ghost use Rattle.alc.specs.Claims.{claimFields, names, holdsBy};
-ghost use Rattle.alc.specs.Shown.{tableOf, claimOf, sidedOf, records};
+ghost use Rattle.alc.specs.Shown.{tableOf, claimOf, sidedOf, claimsIn};
 ghost use Rattle.sets.specs.Bit.{bit, Sized};
 ghost use Rattle.models.specs.Shown.{edgeIn, seatOf, isSeated, allSeated, interpShown, Below, Claimed, Seated, Ready, Fit};
 ghost use Rattle.truth.specs.Truth.{truthIn, wrongIn};
@@ -90,7 +89,7 @@ fn first_wrong(
     requires { ⌜ Sized size ⌝ }
     requires { ⌜ Claimed 256 claims ⌝ }
     requires { ⌜ Seated size (now places) claims ⌝ }
-    ensures { λ r. ⌜ r ≡ firstAt (wrongIn size (now (ext .entry)) (now (places .entry)) (now (edges .entry))) (map sidedOf (records claims)) ⌝ }
+    ensures { λ r. ⌜ r ≡ firstAt (wrongIn size (now (ext .entry)) (now (places .entry)) (now (edges .entry))) (claimsIn claims) ⌝ }
 {
     let n = claims.count;
     let mut i: usize = 0;
@@ -128,7 +127,7 @@ fn placed(c: alc::Claim, places: &[u8; 64]) -> bool
 // Every name in the claims is placed.
 pub fn all_placed(claims: alc::Goal, places: &[u8; 64]) -> bool
     requires { ⌜ Claimed 256 claims ⌝ }
-    ensures { λ r. ⌜ r ≡ allSeated (now (places .entry)) (map sidedOf (records claims)) ⌝ }
+    ensures { λ r. ⌜ r ≡ allSeated (now (places .entry)) (claimsIn claims) ⌝ }
 {
     let n = claims.count;
     let mut i: usize = 0;
@@ -155,7 +154,7 @@ pub fn countered(
     claims: alc::Goal,
 ) -> usize
     requires { ⌜ Ready (now kinds) (now firsts) (now seconds) count size (now places) claims ⌝ }
-    ensures { λ r. ⌜ r ≡ firstAt (holdsBy (tableOf (now (kinds .entry)) (now (firsts .entry)) (now (seconds .entry)) count) (interpShown size (now (places .entry)) (now (atoms .entry)) (now (edges .entry)))) (map sidedOf (records claims)) ⌝ }
+    ensures { λ r. ⌜ r ≡ firstAt (holdsBy (tableOf (now (kinds .entry)) (now (firsts .entry)) (now (seconds .entry)) count) (interpShown size (now (places .entry)) (now (atoms .entry)) (now (edges .entry)))) (claimsIn claims) ⌝ }
 {
     let ext = extensions(kinds, firsts, seconds, count, size, atoms, edges);
     first_wrong(claims, size, &ext, places, edges)

@@ -29,7 +29,7 @@ returns : tie.Need-returns
 returns c =
     let r = c .before .before .before in
     let s = r .before .before .before .before .before in
-    λ cs h. ap (refused (r .read-facts .result .number)) (add-one (r .read-facts .result .lines)) ∙ sym (r .read-facts .ensures .refusal (c .before .if1 .taken) (T s) cs (table-length _ _ _ _))
+    ap (refused (r .read-facts .result .number)) (add-one (r .read-facts .result .lines)) ∙ sym (r .read-facts .ensures .refusal (c .before .if1 .taken) (T s) _ (table-length _ _ _ _))
 
 ended-requires : tie.Need-ended-requires
 ended-requires c κs =
@@ -44,7 +44,7 @@ returns-2 c =
     let e = c .before .before .before .before in
     let r = e .before .before .read-facts .ensures in
     let s = e .before .before .before .before .before .before .before in
-    λ cs h. c .ended .ensures (r .facts) cs (r .told (e .if1 .left)) h ∙ sym (r .left (e .if1 .left) (T s) cs (table-length _ _ _ _))
+    c .ended .ensures (r .facts) (r .told (e .if1 .left)) ∙ sym (r .left (e .if1 .left) (T s) _ (table-length _ _ _ _))
 
 pub judge-facts-spec : {M : Type 1} → statement M
 judge-facts-spec =

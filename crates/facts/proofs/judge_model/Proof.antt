@@ -34,7 +34,7 @@ add-t16 c = search needs
 returns : tie.Need-returns
 returns c =
     let r = c .before in
-    λ cs h. begins-ranges _ _ _ _ (found (r .before .before)) _ _ cs _ (table-length _ _ _ _) (sym (r .ranged .ensures) ∙ not-true _ (c .if1 .taken))
+    begins-ranges _ _ _ _ (found (r .before .before)) _ _ _ _ (table-length _ _ _ _) (sym (r .ranged .ensures) ∙ not-true _ (c .if1 .taken))
 
 cast-size : tie.Need-cast-size
 cast-size c = search needs
@@ -68,13 +68,13 @@ returns-2 : tie.Need-returns-2
 returns-2 c =
     let e = c .before .before in
     let l = e .before .before .before in
-    λ cs h. c .judge-facts .ensures cs h ∙ begins _ _ _ _ (found l) _ (S l .pre .columns .few) (sym (e .before .ranged .ensures) ∙ not-false _ (e .if1 .left)) _ _ cs (table-length _ _ _ _)
+    c .judge-facts .ensures ∙ begins _ _ _ _ (found l) _ (S l .pre .columns .few) (sym (e .before .ranged .ensures) ∙ not-false _ (e .if1 .left)) _ _ _ (table-length _ _ _ _)
 
 returns-3 : tie.Need-returns-3
-returns-3 c = let a = c .before .before .before .before .args in λ cs h. begins-bad (now (a .text)) (a .start) _ _ cs (when-bad _ _ _ (sym (c .before .before .read .ensures) ∙ c .enum-told .given .1))
+returns-3 c = let a = c .before .before .before .before .args in begins-bad (now (a .text)) (a .start) _ _ _ (when-bad _ _ _ (sym (c .before .before .read .ensures) ∙ c .enum-told .given .1))
 
 returns-4 : tie.Need-returns-4
-returns-4 c = let a = c .before .before .before .before .args in λ cs h. begins-end (now (a .text)) (a .start) _ _ cs (when-end _ _ _ (sym (c .before .before .read .ensures) ∙ c .enum-told2 .given .1))
+returns-4 c = let a = c .before .before .before .before .args in begins-end (now (a .text)) (a .start) _ _ _ (when-end _ _ _ (sym (c .before .before .read .ensures) ∙ c .enum-told2 .given .1))
 
 pub judge-model-spec : {M : Type 1} → statement M
 judge-model-spec =

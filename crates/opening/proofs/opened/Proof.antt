@@ -14,10 +14,10 @@ use Rattle.alc.specs.Lists.{All, every}
 use Rattle.alc.specs.Ranges.{inRange}
 use Rattle.alc.specs.Claims.{Sided, claim, claimFields}
 use Rattle.alc.specs.Table.{Table}
-use Rattle.alc.specs.Shown.{tableOf, sidedOf, records}
+use Rattle.alc.specs.Shown.{tableOf, sidedOf, claimsIn}
 use Rattle.alc.specs.Verdict.{refused, judge as judgeFrom, begin, verdict}
 use Rattle.alc.proofs.ShownLaws.{table-length, all-back}
-use Rattle.heading.specs.Parts.{inClaims, TableRead, ClaimsRead}
+use Rattle.heading.specs.Parts.{inClaims, atStart, TableRead, ClaimsRead}
 use Rattle.heading.proofs.Through.{through-judge, through-bounds}
 use Rattle.heading.proofs.Stops.{table-refused, table-left, table-then, table-behind, table-apart, claims-bounds, claims-refused, claims-proof, claims-model, claims-apart}
 use Rattle.opening.specs.Opened.{noColumn, followingOf, Follows}
@@ -95,10 +95,14 @@ claims k = k .read-claims .ensures (lines k) (long k)
 headed : (k : tie.After-read-claims) → verdict (S (T k) .args .records) (text (T k)) ≡ judgeFrom (length (lines k)) (inClaims (lines k) []) (linesOf (drop (T k .read-table .result .at) (text (T k))))
 headed k = begun (T k) ∙ table-left (table (T k)) (k .before .if3 .left)
 
-ranged : (k : tie.After-read-claims) → All (λ s. every (inRange (T k .read-table .result .count) 0) (claimFields (claim s)) ≡ true) (map sidedOf (records (k .read-claims .result .claims)))
+-- the claims of its records
+shown : (k : tie.After-read-claims) → claimsIn (k .read-claims .result .claims) ≡ claims k .cs
+shown k = ap (map sidedOf) (claims k .shown) ∙ all-back (claims k .cs)
+
+ranged : (k : tie.After-read-claims) → All (λ s. every (inRange (T k .read-table .result .count) 0) (claimFields (claim s)) ≡ true) (claimsIn (k .read-claims .result .claims))
 ranged k =
     let h = claims k in
-    subst (λ (l : List Sided). All (λ s. every (inRange (T k .read-table .result .count) 0) (claimFields (claim s)) ≡ true) l) (sym (ap (map sidedOf) (h .shown) ∙ all-back (h .cs)))
+    subst (λ (l : List Sided). All (λ s. every (inRange (T k .read-table .result .count) 0) (claimFields (claim s)) ≡ true) l) (sym (shown k))
     (subst (λ (n : ℕ). All (λ s. every (inRange n 0) (claimFields (claim s)) ≡ true) (h .cs)) (long k) (h .ranges))
 
 further : (k : tie.After-read-claims) → (k .read-claims .result .at ≤ length (text (T k))) × (k .read-claims .result .lines ≤ k .read-claims .result .at)
@@ -143,7 +147,7 @@ returns-5 c =
     let h = claims k in
     let g = c .before .before .before .before .before .if5 .taken in
     opens-decided _ _ _ _ (c .decided5 .ensures) (apart k (λ z. g))
-    (c .before .judge-model .ensures (h .cs) (h .shown) ∙ sym (headed k ∙ through-judge (claims-model (h .leads) (f .before .before .if4 .left) g)))
+    (c .before .judge-model .ensures ∙ ap (λ (cs : List Sided). judgeFrom (k .read-claims .result .lines) (atStart (lines k) cs) (linesOf (drop (k .read-claims .result .at) (text (T k))))) (shown k) ∙ sym (headed k ∙ through-judge (claims-model (h .leads) (f .before .before .if4 .left) g)))
 
 returns-6 : tie.Need-returns-6
 returns-6 c =
