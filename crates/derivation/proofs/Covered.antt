@@ -31,30 +31,6 @@ aside = record { name = S.aside.Symbol.name; n = 0; ps = S.aside.Kinds.ps; r = S
 pub aside! : (w : World) (γ : Env) → γ S.aside.Symbol.name ≡ S.aside.Symbol.routine → Knows aside w γ
 aside! w γ e = S.aside.Reads.known w γ S.aside.Symbol.name S.aside.Symbol.routine e (S.aside.Met.met (w .𝓤) (w .H) (w .𝓜) (w .𝓖) (w .𝓡))
 
-abbrev pub kind-of : Fun!
-kind-of = record { name = P.kind_of.Symbol.name; n = 0; ps = P.kind_of.Kinds.ps; r = P.kind_of.Kinds.r; P = P.kind_of.Reads.Asked; Q = P.kind_of.Reads.Learnt }
-
-pub kind-of! : (w : World) (γ : Env) → γ P.kind_of.Symbol.name ≡ P.kind_of.Symbol.routine → Knows kind-of w γ
-kind-of! w γ e = P.kind_of.Reads.known w γ P.kind_of.Symbol.name P.kind_of.Symbol.routine e (P.kind_of.Met.met (w .𝓤) (w .H) (w .𝓜) (w .𝓖) (w .𝓡))
-
-abbrev pub base-of : Fun!
-base-of = record { name = P.base_of.Symbol.name; n = 0; ps = P.base_of.Kinds.ps; r = P.base_of.Kinds.r; P = P.base_of.Reads.Asked; Q = P.base_of.Reads.Learnt }
-
-pub base-of! : (w : World) (γ : Env) → γ P.base_of.Symbol.name ≡ P.base_of.Symbol.routine → Knows base-of w γ
-base-of! w γ e = P.base_of.Reads.known w γ P.base_of.Symbol.name P.base_of.Symbol.routine e (P.base_of.Met.met (w .𝓤) (w .H) (w .𝓜) (w .𝓖) (w .𝓡))
-
-abbrev pub count-of : Fun!
-count-of = record { name = P.count_of.Symbol.name; n = 0; ps = P.count_of.Kinds.ps; r = P.count_of.Kinds.r; P = P.count_of.Reads.Asked; Q = P.count_of.Reads.Learnt }
-
-pub count-of! : (w : World) (γ : Env) → γ P.count_of.Symbol.name ≡ P.count_of.Symbol.routine → Knows count-of w γ
-count-of! w γ e = P.count_of.Reads.known w γ P.count_of.Symbol.name P.count_of.Symbol.routine e (P.count_of.Met.met (w .𝓤) (w .H) (w .𝓜) (w .𝓖) (w .𝓡))
-
-abbrev pub going : Fun!
-going = record { name = P.going.Symbol.name; n = 0; ps = P.going.Kinds.ps; r = P.going.Kinds.r; P = P.going.Reads.Asked; Q = P.going.Reads.Learnt }
-
-pub going! : (w : World) (γ : Env) → γ P.going.Symbol.name ≡ P.going.Symbol.routine → Knows going w γ
-going! w γ e = P.going.Reads.known w γ P.going.Symbol.name P.going.Symbol.routine e (P.going.Met.met (w .𝓤) (w .H) (w .𝓜) (w .𝓖) (w .𝓡))
-
 abbrev pub answer-of : Fun!
 answer-of = record { name = P.answer_of.Symbol.name; n = 0; ps = P.answer_of.Kinds.ps; r = P.answer_of.Kinds.r; P = P.answer_of.Reads.Asked; Q = P.answer_of.Reads.Learnt }
 

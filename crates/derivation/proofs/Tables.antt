@@ -4,7 +4,8 @@ use mathlib.Core.Path.{_≡_, refl}
 use mathlib.Core.List.{List, [], _∷_}
 use Prim.Native.Nat.{ℕ, _≤_}
 use lib.ListN.{length, replicate}
-use mir.Syntax.{Ty, tyRef, imm, tyInt, named, erased, w8, w64}
+use mir.Syntax.{Ty, tyRef, imm, tyInt, tyBool, named, erased, w8, w64}
+use mir.Val.{vint, vbool}
 use base.Fml.{Lft, Share}
 use denote.Exit.{yes}
 use denote.RattleType.{RattleType}
@@ -19,12 +20,13 @@ use borrow.Kind.MutSlice.{pMutS}
 use borrow.Kind.ShrSlice.{pShrS, spares-sslice}
 use borrow.Kind.ShrRef.{Spares}
 use borrow.Rule.Local as Local
+use borrow.Struct.Reads.{reads-field}
 use borrow.Rule.Slice.Reshare.{mslice-owedS}
 use borrow.Rule.Slice.Shared as Shared
 use borrow.Rule.Slice.Shared.{lenV, sliceV}
 use borrow.Rule.Yields.{Yields}
 use borrow.Table.Reads.{ReadsAs, ReadsAt, ToRoom}
-use borrow.Table.Row.{Sc, sInt, lease, lft}
+use borrow.Table.Row.{Sc, sInt, valS, lease, lft}
 use borrow.Table.Rows.{whole, sslice}
 use borrow.Table.Referent.{rtF, fInt}
 use borrow.Table.Owned.{ShrSlice}
@@ -89,6 +91,19 @@ module _ (w : World) where
   pub act-gone : ToRoom (w .𝓤) (w .H) (w .𝓖 .A) (whole CT.the-row) (mirOf act)
   act-gone = let-go w act
 
+  -- the numbers of an act that are read, and whether a state has its verdict
+  pub act-kind : ReadsAt (w .𝓤) (w .H) (w .𝓖 .A) (whole CT.the-row) i8 0 (λ a. valS byte (a .kind))
+  act-kind = reads-field (w .𝓤) (w .H) (w .𝓖 .A) (W w) CT.the-type CT′.the-laws 0 i8 0 refl
+
+  pub act-base : ReadsAt (w .𝓤) (w .H) (w .𝓖 .A) (whole CT.the-row) (tyInt w64) 8 (λ a. vint w64 (a .base))
+  act-base = reads-field (w .𝓤) (w .H) (w .𝓖 .A) (W w) CT.the-type CT′.the-laws 1 (tyInt w64) 8 refl
+
+  pub act-count : ReadsAt (w .𝓤) (w .H) (w .𝓖 .A) (whole CT.the-row) i8 16 (λ a. valS byte (a .count))
+  act-count = reads-field (w .𝓤) (w .H) (w .𝓖 .A) (W w) CT.the-type CT′.the-laws 2 i8 16 refl
+
+  pub state-ended : ReadsAt (w .𝓤) (w .H) (w .𝓖 .A) (whole ST.the-row) tyBool 504 (λ s. vbool (s .ended))
+  state-ended = reads-field (w .𝓤) (w .H) (w .𝓖 .A) (W w) ST.the-type ST′.the-laws 6 tyBool 504 refl
+
   -- the room while it is lent as a `&[Claim]`
   pub room-shared : (κ : Lft) (q : Share) → ReadsAt (w .𝓤) (w .H) (w .𝓖 .A) (mslice-owedS T.the-row (ref T.the-row (named 0)) 0 5 (lease κ q)) (tyInt w64) 8 (λ x. lenV (x .0))
   room-shared κ q = len-owedS w T.the-row (named 0) 0 5 (lease κ q)
@@ -99,10 +114,10 @@ module _ (w : World) where
   pub bytes-spare : (j : ℕ) → Spares (w .𝓤) (w .H) (w .𝓖 .A) (sslice bytes (τ j) j) (λ ρ x. ShrSlice erased (lft ρ j) bytes .own x)
   bytes-spare j = spares-sslice (w .𝓤) (w .H) (w .𝓖 .A) (W w) bytes (τ j) j
 
-pub ruleset rules = (ev, goal-copied, goal-gone, state-copied, state-gone, act-copied, act-gone, room-ptr, room-len, room-lent, lent-whole, bytes-whole, bytes-spare)
+pub ruleset rules = (ev, goal-copied, goal-gone, state-copied, state-gone, state-ended, act-copied, act-gone, act-kind, act-base, act-count, room-ptr, room-len, room-lent, lent-whole, bytes-whole, bytes-spare)
 
 -- the same where the room is shared
-pub ruleset sharing = (ev, goal-gone, room-ptr, room-len, room-shared, seen-whole, seen-spare)
+pub ruleset sharing = (ev, goal-gone, act-base, room-ptr, room-len, room-shared, seen-whole, seen-spare)
 
 -- ---- contracts: a has the arguments, z the result, e the parameters at exit
 abbrev pub step : Con

@@ -1,11 +1,9 @@
 // The loop over a derivation's lines. The goals that wait live in the room that the caller lends; what a line does is decided in `steps`, by
-// value, and the functions here only do it to the room. They are proved by hand, call by call, so each field that they read has a function.
+// value, and the functions here only do it to the room. They are proved by hand, statement by statement.
 use alc::Answer;
 use alc::Claim;
-use states::Act;
 use states::State;
 ghost use mathlib.Core.Path.{_≡_};
-ghost use mathlib.Core.Bool.{not};
 ghost use mathlib.Core.List.{List};
 ghost use Prim.Native.Nat.{_≤_};
 ghost use lib.Dec.{eqb};
@@ -16,34 +14,6 @@ ghost use Rattle.alc.specs.Verdict.{Verdict};
 ghost use Rattle.states.specs.Standing.{verdictIn};
 ghost use Rattle.steps.specs.Acting.{Ready};
 ghost use Rattle.derivation.specs.Waiting.{Stands, Stepped};
-
-// What the act asks of the room.
-fn kind_of(a: Act) -> u8
-    ensures { λ r. ⌜ r ≡ a .kind ⌝ }
-{
-    a.kind
-}
-
-// Where in the room.
-fn base_of(a: Act) -> usize
-    ensures { λ r. ⌜ r ≡ a .base ⌝ }
-{
-    a.base
-}
-
-// How many records are fetched.
-fn count_of(a: Act) -> usize
-    ensures { λ r. ⌜ r ≡ a .count ⌝ }
-{
-    a.count as usize
-}
-
-// Whether lines are still read.
-fn going(s: State) -> bool
-    ensures { λ r. ⌜ r ≡ not (s .ended) ⌝ }
-{
-    !s.ended
-}
 
 // Whether the verdict that a state has come to is `proved`.
 fn passes(s: State) -> bool
@@ -76,14 +46,13 @@ fn step(
     ensures { λ r. ⌜ Stepped (now (text .entry)) (now (kinds .entry)) (now (firsts .entry)) (now (seconds .entry)) entries (now (room .entry)) s (now (room .exit)) r ⌝ }
 {
     let a = steps::act_at(text, kinds, firsts, seconds, entries, s);
-    let k = kind_of(a);
-    if k == 1 {
+    if a.kind == 1 {
         let next = states::after(s, a);
-        shelf::store(room, base_of(a), states::aside(next, a));
+        shelf::store(room, a.base, states::aside(next, a));
         return next;
     }
-    if k == 2 {
-        let goal = shelf::fetch(room, base_of(a), count_of(a));
+    if a.kind == 2 {
+        let goal = shelf::fetch(room, a.base, a.count as usize);
         return states::behind(s, a, goal);
     }
     states::after(s, a)
@@ -103,7 +72,7 @@ pub fn judge_steps(
     ensures { λ r. ⌜ ((cs : List Sided) (v : Verdict) → Stands (tableOf (now (kinds .entry)) (now (firsts .entry)) (now (seconds .entry)) entries) cs (now (text .entry)) v (now (room .entry)) s → answered r ≡ v) × (now (room .exit) ≡ replicate (length (now (room .entry))) blank) ⌝ }
 {
     let mut cur = s;
-    while going(cur) {
+    while !cur.ended {
         cur = step(room, text, kinds, firsts, seconds, entries, cur);
     }
     room::blank_all(room);

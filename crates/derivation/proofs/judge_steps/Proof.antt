@@ -1,21 +1,23 @@
 -- `derivation::judge_steps` meets its contract. The invariant: the verdict from the room and the state as they are is that from the beginning.
 -- The measure is what is left of the text. Assumes nothing.
-use mathlib.Core.Path.{_≡_, refl, ap, sym, _∙_}
+use mathlib.Core.Path.{_≡_, refl, ap, _∙_}
 use mathlib.Core.Bool.{true, false}
 use mathlib.Core.List.{List, [], _∷_}
 use Prim.Native.Nat.{ℕ}
 use native.Mathlib.Omega.{arith}
 use lib.ListN.{replicate}
-use mir.Syntax.{named, erased}
+use mir.Syntax.{tyBool, bitNot, field, named, erased}
+use mir.Val.{vbool}
 use contract.Running.{tablesOf}
 use borrow.Author.Tests.{not-true, not-false}
 use borrow.Fn.Args.{vAt}
 use borrow.Fn.World.{World}
+use borrow.Rule.Scalar.{oFld}
 use borrow.Rule.Slice.Mut.{setVals}
-use borrow.Table.Row.{lease}
+use borrow.Table.Row.{lease, sBool}
 use Rattle.room.proofs as R
 use Rattle.room.proofs.Says.{fun, Knows, knows}
-use Rattle.room.proofs.Walk.{Body!, Asks!, proved, same-len, tts, ref, _▸_, _▹_, _&_, copies, clears, returns, joins, blocks, loops, conds, skips, leaves, last, lends, calls, backs}
+use Rattle.room.proofs.Walk.{Body!, Asks!, proved, same-len, tts, ref, _▸_, _▹_, _&_, works, copies, clears, returns, joins, blocks, loops, conds, skips, leaves, last, lends, calls, backs}
 use Rattle.room.proofs.Claims as RC
 use Rattle.room.proofs.Claims.{claim}
 use Rattle.alc.specs.Shown.{blank}
@@ -30,7 +32,7 @@ use Rattle.derivation.proofs.judge_steps.Key.{name}
 use Rattle.derivation.proofs.judge_steps.Statement.{statement}
 use Rattle.derivation.proofs.judge_steps.Code as code
 
-module _ (w : World) (step : Knows (fun C.step) w code.env) (blank-all : Knows (fun RC.blank-all) w code.env) (going : Knows F.going w code.env) (answer-of : Knows F.answer-of w code.env) where
+module _ (w : World) (step : Knows (fun C.step) w code.env) (blank-all : Knows (fun RC.blank-all) w code.env) (answer-of : Knows F.answer-of w code.env) where
   unfoldable body : Body! C.judge-steps 1 code.function w code.env
   body κs qs bs =
       copies state 7 8 (λ x. x) (λ x. x) (search rules) ▸
@@ -38,7 +40,7 @@ module _ (w : World) (step : Knows (fun C.step) w code.env) (blank-all : Knows (
       (λ (l, cur) (r, (room, (text, (kinds, (firsts, (seconds, (entries, (s, (_, rest))))))))). (r, (setVals l room, (text, (kinds, (firsts, (seconds, (entries, (s, (cur, rest))))))))))
       (λ (r, (room, (text, (kinds, (firsts, (seconds, (entries, (s, rest)))))))) (l, cur). Holds (text .now) (kinds .now) (firsts .now) (seconds .now) entries (room .now) s l cur)
       (λ (r, (room, (text, rest))) (l, cur). left (text .now) cur) (
-      calls F.going going 9 [] (record { pos = 8; st = []; d = 0; at = λ x. x }, tt) (search rules) (search rules) ▸
+      works 9 sBool bitNot (oFld 8 (field 6 ∷ []) tyBool 504 (λ s. vbool (s .ended))) (search rules) ▸
       joins (conds 9 (λ x. x) (search rules) (clears (9 ∷ []) (search rules) (skips tt)) (clears (9 ∷ []) (search rules) (leaves 1 tt))) (
       lends (claim .R) 1 10 11 0 5 (named 0) (lease (κs .0) (qs .0)) (λ x. x) (λ x. x) (λ x. x) (tts 15) (search rules) (search rules) (
       last tt (calls (fun C.step) step 8 (5 ∷ 1 ∷ 2 ∷ 3 ∷ 4 ∷ [])
@@ -58,9 +60,9 @@ module _ (w : World) (step : Knows (fun C.step) w code.env) (blank-all : Knows (
     ((room .now, s), refl, holds-first (text .now) (kinds .now) (firsts .now) (seconds .now) entries (room .now) s (pre .1)),
     λ (l, cur) held.
         let inv : Holds (text .now) (kinds .now) (firsts .now) (seconds .now) entries (room .now) s l cur = held in (
-          λ _. tt,
-          λ g. (
-            λ test. let on : cur .ended ≡ false = not-true (cur .ended) (sym (g .5) ∙ test) in
+          tt,
+          (
+            λ test. let on : cur .ended ≡ false = not-true (cur .ended) test in
                 λ γ. (
                   refl,
                   (
@@ -72,7 +74,7 @@ module _ (w : World) (step : Knows (fun C.step) w code.env) (blank-all : Knows (
                     ),
                   ),
                 ),
-            λ test. let off : cur .ended ≡ true = not-false (cur .ended) (sym (g .5) ∙ test) in
+            λ test. let off : cur .ended ≡ true = not-false (cur .ended) test in
                 λ γ. (refl, (λ _. tt, λ b. (refl, λ same. (λ _. tt, λ r. ((same-len room (b .2 .0) (same ∙ inv .long), (refl, (refl, (refl, (refl, (tt, (tt, tt))))))), (λ cs v st. r .5 ∙ inv .after cs v st .there off, b .5 ∙ ap (λ (n : ℕ). replicate n blank) (inv .long))))))),
           ),
         ),
@@ -84,6 +86,5 @@ judge-steps-spec 𝓤 H 𝓜 𝓖 𝓡 =
     let w : World = record { M = _; 𝓤 = 𝓤; H = H; 𝓜 = 𝓜; 𝓖 = 𝓖; 𝓡 = 𝓡 } in
     let step = knows C.step w code.env P.step.Symbol.routine code.calls-derivation·step (P.step.Met.met 𝓤 H 𝓜 𝓖 𝓡) in
     let blank-all = knows RC.blank-all w code.env R.blank_all.Symbol.routine code.calls-room·blank-all (R.blank_all.Met.met 𝓤 H 𝓜 𝓖 𝓡) in
-    let going = F.going! w code.env code.calls-derivation·going in
     let answer-of = F.answer-of! w code.env code.calls-derivation·answer-of in
-    proved C.judge-steps 1 code.function w code.env name (code.unfolded 𝓤 H 𝓜 𝓡) (body w step blank-all going answer-of) (met w step blank-all going answer-of)
+    proved C.judge-steps 1 code.function w code.env name (code.unfolded 𝓤 H 𝓜 𝓡) (body w step blank-all answer-of) (met w step blank-all answer-of)
