@@ -6,6 +6,7 @@
 --     last, skips, leaves, returns, joins, blocks, loops, conds     the last statement of its part; `skip`, `exit n`, `return`; code with
 --                      several ways out, then the rest; `block`, `loop` (by an invariant and a measure), `if`
 --     sets, calcs, works, copies, makes     `d = a`; `d = a op b`; `d = op a`; `d = y`, of a struct; `d = S { .. }`
+--     takes            `d = y.k`, of a struct's field that is a struct, an enum or an array
 --     clears, gone!    locals are let go, before the rest, and as a ghost step
 --     stores, fetches  `*q = y` and `d = *q`, where q points into a `&mut [T]`
 --     lends, backs     a `&mut [T]` is lent again for a call; it comes back
@@ -35,14 +36,14 @@ use base.Logic.{SProp, ent, id⊢, via, guard}
 use ghost.Atoms.{Atoms}
 use types.Kit.{Given, mean}
 use mir.Syntax.{Ty, Body, Op1, Op2, Home, Name, Local, local, Fn, Lifetime, erased, mut, imm, tyRef, seq, skip, exit, block, loop, return, cond, copy, place, assign, op1, op2, rvOpd, tyBool, deref, tyPtr, addrOf, aggregate, field, call, tyInt, w64, tyArray, repeat}
-use mir.Val.{vbool, vstruct, ofList, hasTy, op1Val, op2Val}
+use mir.Val.{Val, vbool, vstruct, ofList, hasTy, op1Val, op2Val}
 use contract.Lifetimes.{Lfts, Shares}
 use contract.Running.{givenOf, tables}
 use denote.Memory.{mem, lone, pointee}
 use denote.RattleType.{RattleType}
 use denote.Ref.{RefT}
 use denote.Slice.{sliceTy, Room}
-use denote.Laws.{Is}
+use denote.Laws.{Is, Lawful, Makes}
 use denote.Array.{Array}
 use denote.ArrayMemory.{Single}
 use denote.Struct.Declared.{Declared, row, fields, shape}
@@ -79,7 +80,8 @@ use borrow.Rule.Slice.Shared as Shared
 use borrow.Rule.Slice.Shared.{bySize, lenV, sliceV}
 use borrow.Rule.Token.Call.{HasH}
 use borrow.Rule.Yields as Yields
-use borrow.Struct.Make.{HasOs, opOs, valOs, FromWTs, n-struct-make, t-struct-make, is-wt, tells-row, whole-is}
+use borrow.Struct.CopyOut.{t-copy-told}
+use borrow.Struct.Make.{HasOs, opOs, valOs, FromWTs, n-make, n-struct-make, t-struct-make, is-wt, tells-row, whole-is}
 use borrow.Struct.Reads.{reads-struct}
 use borrow.Fn.Any.{wantQ}
 use borrow.Fn.Args.{ArgsT, opsV, outsM, Has}
@@ -377,6 +379,20 @@ module _ {M : Type 1} {𝓤 : URA M} {H : Heap 𝓤} {A : Atoms 𝓤} {W : Given
   unshares {L} {K} R m α β ℓ l hm h =
       ghost! (Lifetime.g-end 𝓤 H A W E (cx L K) β (h .0)) ⊕ ghost! (Reshare.g-back-sl-shr 𝓤 H A W E R (Lifetime.Ended (cx L K) β) m α β (ref R ℓ) l hm (h .1) (h .2) (h .3))
       ⊕ ghost! (Lifetime.g-forget 𝓤 H A W E (Unshared L K R m α β ℓ l) β dead (h .4))
+
+  -- `d = copy y.k`, where y holds a struct of plain data, and R is the type of its field k, which g reads: it lies o bytes on, and mv is its machine
+  -- value. `from` says that what the struct's own relation has of the field is R's
+  abbrev pub takes : {L : List Entry} {K : List Life} (T : Declared) (l : SL.Laws T) (R : RattleType) (one : One R) (mv : R .Denot → Val) → Lawful 𝓤 H A R → Makes 𝓤 H A R (Is R)
+      → (g : T .D → R .Denot) (from : (x : T .D) → Is (row T) x (SL.val T l x ∷ []) → Is R (g x) (mv (g x) ∷ [])) (k o y d : ℕ) (h : getRow y (rowOut d L) .1 .Mod → T .D)
+      → ToRoom 𝓤 H A (getRow d L .1) (lone (R .mir)) × HasO 𝓤 H A E (rowOut d L) (oFld y (field k ∷ []) (lone (R .mir)) o (λ x. mv (g (h x)))) × (spotOf 𝓤 H E (getRow d L .0) .0 ≡ lone (R .mir))
+      × TellsIs 𝓤 H A (getRow y (rowOut d L) .1) (λ x. Is (row T) (h x) (SL.val T l (h x) ∷ []))
+      → S 𝓤 H A W 𝓣 E L K (assign (place (getRow d L .0) []) (rvOpd (copy (place (getRow y (rowOut d L) .0) (field k ∷ []))))) (row! d (whole R) L) K
+  takes {L} {K} T l R one mv lf mk g from k o y d h p = record {
+    φ = pass (cx L K) (After (cx L K) d (whole R)) (n-make R (cx L K) d (λ m. g (h (get y (rowOut d L) m))));
+    stmt = t-copy-told 𝓤 H A W E 𝓣 R one mv lf mk (cx L K) d (oFld y (field k ∷ []) (lone (R .mir)) o (λ x. mv (g (h x)))) (λ m. g (h (get y (rowOut d L) m)))
+        (λ m. Is (row T) (h (get y (rowOut d L) m)) (SL.val T l (h (get y (rowOut d L) m)) ∷ [])) (p .0) (p .1) (p .2)
+        (λ ρ m. tells-row 𝓤 H A W E ρ (rowOut d L) m y _ (p .3 ρ (get y (rowOut d L) m) (spotOf 𝓤 H E (getRow y (rowOut d L) .0) .1))) (λ m k wa. refl) (λ m k wa. from (h (get y (rowOut d L) m)) k);
+  }
 
   -- ---- a local array. `d = repeat (copy y) n`, where y holds a struct
   abbrev pub repeats : {L : List Entry} {K : List Life} (T : Declared) (l : SL.Laws T) (c : SL.Copyables (T .parts)) (pl : Plains (fields T)) (n y d : ℕ) (h : getRow y (rowOut d L) .1 .Mod → T .D) (k : getRow d (row! d (whole (Array (row T) n)) L) .1 .Mod → List (T .D))
