@@ -6,7 +6,7 @@ use Prim.Native.Nat.{ℕ, _<_}
 use lib.ListN.{length, set, getD, replicate}
 use lib.Dec.{lit<}
 use mir.Syntax.{Ty, Lifetime, tyArray, tyInt, named, erased, w64}
-use mir.Val.{Val}
+use mir.Val.{Val, vint}
 use base.Fml.{Lft, Share}
 use denote.Exit.{yes}
 use denote.Laws.{Is}
@@ -30,6 +30,7 @@ use borrow.Rule.Slice.Mut.{mslice}
 use borrow.Rule.Slice.Relend.{mslice-owed}
 use borrow.Rule.Slice.Shared.{lenV, sliceV}
 use borrow.Rule.Yields.{Yields}
+use borrow.Struct.Reads.{reads-field}
 use borrow.Table.Copies.{cStruct}
 use borrow.Table.Elements.{at-mul}
 use borrow.Table.Reads.{As, ReadsAs, ReadsAt, ToRoom, ptrVal}
@@ -106,6 +107,10 @@ module _ (w : World) where
   pub goal-gone : ToRoom (w .𝓤) (w .H) (w .𝓖 .A) (whole GT.the-row) (mirOf goal)
   goal-gone = let-go w goal
 
+  -- how many records a goal has
+  pub goal-count : ReadsAt (w .𝓤) (w .H) (w .𝓖 .A) (whole GT.the-row) (tyInt w64) 448 (λ g. vint w64 (g .count))
+  goal-count = reads-field (w .𝓤) (w .H) (w .𝓖 .A) (W w) GT.the-type GT′.the-laws 1 (tyInt w64) 448 refl
+
   pub room-ptr : ReadsAt (w .𝓤) (w .H) (w .𝓖 .A) (mslice T.the-row (ref T.the-row (named 0)) 0) (ref T.the-row (named 0)) 0 ptrVal
   room-ptr = ptr-of w T.the-row (named 0) 0
 
@@ -154,7 +159,7 @@ pub ruleset seen = (ev, claim-copied, claim-gone, seen-ptr, seen-whole, seen-spa
 
 pub ruleset run = (ev, claim-copied, claim-gone, room-ptr, room-len, room-lent, lent-whole, seen-whole, seen-spare)
 
-pub ruleset own = (ev, lit<, claim-copied, claim-gone, goal-copied, goal-gone, claim-read, claim-is, claims-full, claims-copied, claims-gone, room-ptr, room-len, room-lent, lent-whole, seen-whole, seen-spare)
+pub ruleset own = (ev, lit<, claim-copied, claim-gone, goal-copied, goal-gone, goal-count, claim-read, claim-is, claims-full, claims-copied, claims-gone, room-ptr, room-len, room-lent, lent-whole, seen-whole, seen-spare)
 
 -- ---- contracts: a has the arguments, z the result, e the parameters at exit
 abbrev pub put : Con

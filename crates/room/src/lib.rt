@@ -1,5 +1,5 @@
 // The room that the caller lends, a slice of claim records: a record goes in, is read, and in the end every one is blank. Functions over the room are
-// proved by hand, call by call.
+// proved by hand, statement by statement.
 use alc::Claim;
 use alc::Concept;
 use alc::Name;

@@ -12,12 +12,6 @@ claims-of = record { name = P.claims_of.Symbol.name; n = 0; ps = P.claims_of.Kin
 pub claims-of! : (w : World) (γ : Env) → γ P.claims_of.Symbol.name ≡ P.claims_of.Symbol.routine → Knows claims-of w γ
 claims-of! w γ e = P.claims_of.Reads.known w γ P.claims_of.Symbol.name P.claims_of.Symbol.routine e (P.claims_of.Met.met (w .𝓤) (w .H) (w .𝓜) (w .𝓖) (w .𝓡))
 
-abbrev pub count-of : Fun!
-count-of = record { name = P.count_of.Symbol.name; n = 0; ps = P.count_of.Kinds.ps; r = P.count_of.Kinds.r; P = P.count_of.Reads.Asked; Q = P.count_of.Reads.Learnt }
-
-pub count-of! : (w : World) (γ : Env) → γ P.count_of.Symbol.name ≡ P.count_of.Symbol.routine → Knows count-of w γ
-count-of! w γ e = P.count_of.Reads.known w γ P.count_of.Symbol.name P.count_of.Symbol.routine e (P.count_of.Met.met (w .𝓤) (w .H) (w .𝓜) (w .𝓖) (w .𝓡))
-
 abbrev pub goal-of : Fun!
 goal-of = record { name = P.goal_of.Symbol.name; n = 0; ps = P.goal_of.Kinds.ps; r = P.goal_of.Kinds.r; P = P.goal_of.Reads.Asked; Q = P.goal_of.Reads.Learnt }
 

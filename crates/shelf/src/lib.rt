@@ -1,5 +1,5 @@
-// Goals that wait, in the room that the caller lends: stored, and fetched again. Functions over the room are proved by hand, call by call, so each field
-// that they read or make has a function.
+// Goals that wait, in the room that the caller lends: stored, and fetched again. Functions over the room are proved by hand, statement by statement; a goal
+// is taken apart and made by functions of their own, which are not.
 use alc::Claim;
 use alc::Goal;
 ghost use mathlib.Core.Path.{_≡_};
@@ -26,13 +26,6 @@ fn claims_of(g: Goal) -> [Claim; 64]
     g.claims
 }
 
-// How many records the goal has.
-fn count_of(g: Goal) -> usize
-    ensures { λ r. ⌜ r ≡ g .count ⌝ }
-{
-    g.count
-}
-
 // The goal of the first n records.
 fn goal_of(claims: [Claim; 64], n: usize) -> Goal
     ensures { λ r. ⌜ r ≡ goalOf claims n ⌝ }
@@ -49,8 +42,7 @@ pub fn store(room: &mut [Claim], base: usize, g: Goal)
     ensures { λ _. ⌜ now (room .exit) ≡ stored (now (room .entry)) base (g .claims) (g .count) ⌝ }
 {
     let claims = claims_of(g);
-    let n = count_of(g);
-    copy(room, base, &claims, 0, n);
+    copy(room, base, &claims, 0, g.count);
 }
 
 // n records of the room, from base on, as a goal.
