@@ -1,7 +1,7 @@
 -- The types of the room's functions as the rules take them, the facts about them that `search` needs, and the contracts. A claim record is
 -- seven bytes of plain data, so a place in the room lies seven times its number on; the rules hold at any such type. Assumes nothing.
-use mathlib.Core.Path.{_≡_, refl}
-use mathlib.Core.List.{[], _∷_}
+use mathlib.Core.Path.{_≡_, refl, ap, subst, fun-ext}
+use mathlib.Core.List.{[], _∷_, List, map-map}
 use Prim.Native.Nat.{ℕ, _<_}
 use lib.ListN.{length, set, getD, replicate}
 use lib.Dec.{lit<}
@@ -10,7 +10,7 @@ use mir.Val.{Val, vint}
 use base.Fml.{Lft, Share}
 use denote.Exit.{yes}
 use denote.Laws.{Is}
-use denote.Array.{Array}
+use denote.Array.{Array, arrayVal}
 use denote.Slice.{sliceTy}
 use denote.Struct.Declared.{Declared, row, fields}
 use denote.Struct.Laws as L
@@ -21,7 +21,7 @@ use borrow.Kind.Value.{Valued, pVal, rVal}
 use borrow.Kind.Num.{pNum}
 use borrow.Kind.Unit.{rUnit}
 use borrow.Kind.MutSlice.{pMutS}
-use borrow.Kind.Array.{eStruct, eStruct-laws, arr-yields}
+use borrow.Kind.Array.{arrV, eStruct, eStruct-laws, arr-reads, arr-yields}
 use borrow.Kind.ShrSlice.{pShrS, spares-sslice}
 use borrow.Kind.ShrRef.{Spares}
 use borrow.Rule.Array.Rows.{arrF}
@@ -30,6 +30,8 @@ use borrow.Rule.Slice.Mut.{mslice}
 use borrow.Rule.Slice.Relend.{mslice-owed}
 use borrow.Rule.Slice.Shared.{lenV, sliceV}
 use borrow.Rule.Yields.{Yields}
+use borrow.Fn.Frame.{EnvOf}
+use borrow.Struct.Items.{arr-is}
 use borrow.Struct.Reads.{reads-field}
 use borrow.Table.Copies.{cStruct}
 use borrow.Table.Elements.{at-mul}
@@ -42,6 +44,8 @@ use Rattle.alc.proofs.Claim.Laws as T′
 use Rattle.alc.proofs.Goal as GT
 use Rattle.alc.proofs.Goal.Laws as GT′
 use Rattle.alc.specs.Shown.{blank}
+use Rattle.alc.specs.declared.Claim.{Claim}
+use Rattle.alc.specs.declared.Goal.{Goal}
 use Rattle.room.proofs.Says.{Con}
 use Rattle.room.proofs.Walk.{ev, W, TellsIs, Data, Elem, mirOf, ref, refS, copied, let-go, ptr-of, len-of, slice-of, len-owed, ptr-ofS, slice-ofS, slice-goneS, struct-read, struct-is, array-full, array-gone}
 
@@ -90,6 +94,13 @@ goalP = byVal GT.the-type GT′.the-laws GT′.the-copy GT′.the-plain
 abbrev pub goalR : {n : ℕ} → RK n
 goalR = asRes GT.the-type GT′.the-laws GT′.the-copy GT′.the-plain
 
+-- the records of a goal, as an array of one machine value
+abbrev pub sixty-four : Valued
+sixty-four = arrV (eStruct T.the-type T′.the-laws T′.the-copy) 64
+
+abbrev pub claimsV : List Claim → Val
+claimsV = sixty-four .val
+
 abbrev pub roomP : PK 1
 roomP = pMutS T.the-row 0 tt
 
@@ -110,6 +121,15 @@ module _ (w : World) where
   -- how many records a goal has
   pub goal-count : ReadsAt (w .𝓤) (w .H) (w .𝓖 .A) (whole GT.the-row) (tyInt w64) 448 (λ g. vint w64 (g .count))
   goal-count = reads-field (w .𝓤) (w .H) (w .𝓖 .A) (W w) GT.the-type GT′.the-laws 1 (tyInt w64) 448 refl
+
+  -- its records
+  pub goal-claims : ReadsAt (w .𝓤) (w .H) (w .𝓖 .A) (whole GT.the-row) (tyArray (mirOf claim) 64) 0 (λ g. claimsV (g .claims))
+  goal-claims =
+      subst (λ (f : Goal → Val). ReadsAt (w .𝓤) (w .H) (w .𝓖 .A) (whole GT.the-row) (tyArray (mirOf claim) 64) 0 f) (fun-ext (λ g. ap arrayVal (map-map _ (T.the-type .to) (g .claims))))
+      (reads-field (w .𝓤) (w .H) (w .𝓖 .A) (W w) GT.the-type GT′.the-laws 0 (tyArray (mirOf claim) 64) 0 refl)
+
+  pub goal-is : TellsIs (w .𝓤) (w .H) (w .𝓖 .A) (whole GT.the-row) (λ g. Is GT.the-row g (L.val GT.the-type GT′.the-laws g ∷ []))
+  goal-is = struct-is w GT.the-type GT′.the-laws
 
   pub room-ptr : ReadsAt (w .𝓤) (w .H) (w .𝓖 .A) (mslice T.the-row (ref T.the-row (named 0)) 0) (ref T.the-row (named 0)) 0 ptrVal
   room-ptr = ptr-of w T.the-row (named 0) 0
@@ -147,6 +167,13 @@ module _ (w : World) where
   pub claims-full : (n : ℕ) → As (w .𝓤) (w .H) (w .𝓖 .A) (whole (Array T.the-row n)) (arrF T.the-row n 0) (λ xs. xs)
   claims-full = array-full w T.the-type T′.the-laws
 
+  -- it is an operand, and its relation holds of its records
+  pub claims-read : ReadsAs (w .𝓤) (w .H) (w .𝓖 .A) (arrF T.the-row 64 0) (tyArray (mirOf claim) 64) claimsV
+  claims-read = arr-reads (w .𝓤) (w .H) (w .𝓖 .A) (W w) (eStruct T.the-type T′.the-laws T′.the-copy) (eStruct-laws T.the-type T′.the-laws T′.the-copy T′.the-plain) 64
+
+  pub claims-are : TellsIs (w .𝓤) (w .H) (w .𝓖 .A) (arrF T.the-row 64 0) (λ l. Is (Array T.the-row 64) l (claimsV l ∷ []))
+  claims-are ρ l b = arr-is (w .𝓤) (w .H) (w .𝓖 .A) (W w) (EnvOf (w .𝓤) (w .H) (tyArray (mirOf claim) 64 ∷ []) (b ∷ [])) T.the-row tt (L.val T.the-type T′.the-laws) (L.tells T.the-type T′.the-laws) 64 ρ 0 l
+
   pub claims-copied : (n : ℕ) → Yields (w .𝓤) (w .H) (w .𝓖 .A) (λ ρ. Unit {0}) (tyArray (mirOf claim) n) (arrF T.the-row n 0) (arrF T.the-row n 0) (Array T.the-row n) (λ x. x) (λ x. x)
   claims-copied n = arr-yields (w .𝓤) (w .H) (w .𝓖 .A) (W w) (eStruct T.the-type T′.the-laws T′.the-copy) (eStruct-laws T.the-type T′.the-laws T′.the-copy T′.the-plain) n
 
@@ -159,7 +186,7 @@ pub ruleset seen = (ev, claim-copied, claim-gone, seen-ptr, seen-whole, seen-spa
 
 pub ruleset run = (ev, claim-copied, claim-gone, room-ptr, room-len, room-lent, lent-whole, seen-whole, seen-spare)
 
-pub ruleset own = (ev, lit<, claim-copied, claim-gone, goal-copied, goal-gone, goal-count, claim-read, claim-is, claims-full, claims-copied, claims-gone, room-ptr, room-len, room-lent, lent-whole, seen-whole, seen-spare)
+pub ruleset own = (ev, lit<, claim-copied, claim-gone, goal-copied, goal-gone, goal-count, goal-claims, goal-is, claim-read, claim-is, claims-full, claims-read, claims-are, claims-copied, claims-gone, room-ptr, room-len, room-lent, lent-whole, seen-whole, seen-spare)
 
 -- ---- contracts: a has the arguments, z the result, e the parameters at exit
 abbrev pub put : Con

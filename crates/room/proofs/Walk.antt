@@ -6,7 +6,7 @@
 --     last, skips, leaves, returns, joins, blocks, loops, conds     the last statement of its part; `skip`, `exit n`, `return`; code with
 --                      several ways out, then the rest; `block`, `loop` (by an invariant and a measure), `if`
 --     sets, calcs, works, copies, makes     `d = a`; `d = a op b`; `d = op a`; `d = y`, of a struct; `d = S { .. }`
---     takes            `d = y.k`, of a struct's field that is a struct, an enum or an array
+--     takes, makes-of  `d = y.k`, of a struct's field that is a struct, an enum or an array; `d = S { .. }`, of an array and numbers
 --     clears, gone!    locals are let go, before the rest, and as a ghost step
 --     stores, fetches  `*q = y` and `d = *q`, where q points into a `&mut [T]`
 --     lends, backs     a `&mut [T]` is lent again for a call; it comes back
@@ -81,7 +81,8 @@ use borrow.Rule.Slice.Shared.{bySize, lenV, sliceV}
 use borrow.Rule.Token.Call.{HasH}
 use borrow.Rule.Yields as Yields
 use borrow.Struct.CopyOut.{t-copy-told}
-use borrow.Struct.Make.{HasOs, opOs, valOs, FromWTs, n-make, n-struct-make, t-struct-make, is-wt, tells-row, whole-is}
+use borrow.Struct.Make.{HasOs, opOs, valOs, FromWTs, n-make, n-struct-make, t-make-told, t-struct-make, is-wt, tells-row, whole-is}
+use borrow.Struct.Signed.{Mades, made-val, made-is}
 use borrow.Struct.Reads.{reads-struct}
 use borrow.Fn.Any.{wantQ}
 use borrow.Fn.Args.{ArgsT, opsV, outsM, Has}
@@ -379,6 +380,18 @@ module _ {M : Type 1} {𝓤 : URA M} {H : Heap 𝓤} {A : Atoms 𝓤} {W : Given
   unshares {L} {K} R m α β ℓ l hm h =
       ghost! (Lifetime.g-end 𝓤 H A W E (cx L K) β (h .0)) ⊕ ghost! (Reshare.g-back-sl-shr 𝓤 H A W E R (Lifetime.Ended (cx L K) β) m α β (ref R ℓ) l hm (h .1) (h .2) (h .3))
       ⊕ ghost! (Lifetime.g-forget 𝓤 H A W E (Unshared L K R m α β ℓ l) β dead (h .4))
+
+  -- `d = S { .. }`, where the row of y tells a fact P that the operands' relations rest on
+  abbrev pub makes-of : {L : List Entry} {K : List Life} (T : Declared) (l : SL.Laws T) (pl : Plains (fields T)) (y nd : ℕ) (xs : List (Oper (rowOut nd L))) (v : St (rowOut nd L) → T .D) (P : getRow y (rowOut nd L) .1 .Mod → Type 0)
+      → ToRoom 𝓤 H A (getRow nd L .1) (layout (shape T)) × HasOs 𝓤 H A E (rowOut nd L) xs × (spotOf 𝓤 H E (getRow nd L .0) .0 ≡ layout (shape T)) × TellsIs 𝓤 H A (getRow y (rowOut nd L) .1) P
+      → ((m : St (rowOut nd L)) → P (get y (rowOut nd L) m) → Mades (T .parts) l (valOs (rowOut nd L) xs m) (T .to (v m)))
+      → S 𝓤 H A W 𝓣 E L K (assign (place (getRow nd L .0) []) (aggregate (opOs (rowOut nd L) xs))) (row! nd (whole (row T)) L) K
+  makes-of {L} {K} T l pl y nd xs v P p made = record {
+    φ = pass (cx L K) (After (cx L K) nd (whole (row T))) (n-make (row T) (cx L K) nd v);
+    stmt = t-make-told 𝓤 H A W E 𝓣 (row T) refl (SL.val T l) (SL.lawful T l 𝓤 H A W) (SL.makes T pl 𝓤 H A) (cx L K) nd xs v (λ m. P (get y (rowOut nd L) m)) (p .0) (p .1) (p .2)
+        (λ ρ m. tells-row 𝓤 H A W E ρ (rowOut nd L) m y _ (p .3 ρ (get y (rowOut nd L) m) (spotOf 𝓤 H E (getRow y (rowOut nd L) .0) .1)))
+        (λ m k wa. made-val T l (valOs (rowOut nd L) xs m) (v m) (made m k) wa) (λ m k wa. made-is T l (valOs (rowOut nd L) xs m) (v m) (made m k) wa);
+  }
 
   -- `d = copy y.k`, where y holds a struct of plain data, and R is the type of its field k, which g reads: it lies o bytes on, and mv is its machine
   -- value. `from` says that what the struct's own relation has of the field is R's

@@ -1,5 +1,4 @@
-// Goals that wait, in the room that the caller lends: stored, and fetched again. Functions over the room are proved by hand, statement by statement; a goal
-// is taken apart and made by functions of their own, which are not.
+// Goals that wait, in the room that the caller lends: stored, and fetched again. Functions over the room are proved by hand, statement by statement.
 use alc::Claim;
 use alc::Goal;
 ghost use mathlib.Core.Path.{_≡_};
@@ -19,29 +18,12 @@ fn copy(to: &mut [Claim], at: usize, from: &[Claim], base: usize, n: usize)
     }
 }
 
-// The goal's records.
-fn claims_of(g: Goal) -> [Claim; 64]
-    ensures { λ r. ⌜ r ≡ g .claims ⌝ }
-{
-    g.claims
-}
-
-// The goal of the first n records.
-fn goal_of(claims: [Claim; 64], n: usize) -> Goal
-    ensures { λ r. ⌜ r ≡ goalOf claims n ⌝ }
-{
-    Goal {
-        claims: claims,
-        count: n,
-    }
-}
-
 // The goal's records go into the room, from base on.
 pub fn store(room: &mut [Claim], base: usize, g: Goal)
     requires { ⌜ (g .count ≤ 64) × (base + g .count ≤ length (now room)) ⌝ }
     ensures { λ _. ⌜ now (room .exit) ≡ stored (now (room .entry)) base (g .claims) (g .count) ⌝ }
 {
-    let claims = claims_of(g);
+    let claims = g.claims;
     copy(room, base, &claims, 0, g.count);
 }
 
@@ -53,5 +35,8 @@ pub fn fetch(room: &[Claim], base: usize, n: usize) -> Goal
     let blank = room::blank_claim();
     let mut claims = [blank; 64];
     copy(&mut claims, 0, room, base, n);
-    goal_of(claims, n)
+    Goal {
+        claims: claims,
+        count: n,
+    }
 }

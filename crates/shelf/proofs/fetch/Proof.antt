@@ -4,23 +4,31 @@ use mathlib.Core.List.{List, [], _∷_}
 use native.Mathlib.Omega.{arith}
 use lib.Dec.{lit<}
 use lib.ListN.{replicate, length-replicate}
-use mir.Syntax.{w64, named, erased}
+use mir.Syntax.{tyArray, w64, named, erased}
 use mir.Val.{vint}
 use contract.Running.{tablesOf}
 use borrow.Fn.Args.{vAt, vLit}
 use borrow.Fn.World.{World}
-use borrow.Rule.Scalar.{oInt}
+use denote.Array.{Array}
+use denote.Laws.{Is}
+use denote.Struct.Field.{u64-field}
+use denote.Struct.Laws.{u64-laws}
+use borrow.Rule.Scalar.{oAt, oInt}
+use borrow.Struct.Items.{made-array}
+use borrow.Struct.Make.{u64-wt}
+use borrow.Struct.Signed.{made-wt}
 use borrow.Table.Row.{sUnit}
 use Rattle.alc.proofs.Claim as T
 use Rattle.alc.proofs.Claim.Laws as T′
+use Rattle.alc.proofs.Goal as GT
+use Rattle.alc.proofs.Goal.Laws as GT′
 use Rattle.room.proofs.Says.{fun, Knows, knows}
-use Rattle.room.proofs.Walk.{used, Body!, Asks!, proved, tts, ref, refS, _▸_, _▹_, copies-all, clears, returns, repeats, calls, lends-all, backs-all}
+use Rattle.room.proofs.Walk.{used, Body!, Asks!, proved, tts, ref, refS, _▸_, _▹_, copies-all, makes-of, mirOf, clears, returns, repeats, calls, lends-all, backs-all}
 use Rattle.shelf.proofs as P
 use Rattle.room.proofs.Covered as RF
-use Rattle.shelf.proofs.Covered as F
 use Rattle.room.proofs.Claims as RC
 use Rattle.shelf.proofs.Goals as C
-use Rattle.room.proofs.Claims.{num, claim, own}
+use Rattle.room.proofs.Claims.{num, i64, nat, claim, own}
 use Rattle.shelf.proofs.Stored.{blanks-are}
 use Rattle.shelf.proofs.fetch.Key.{name}
 use Rattle.shelf.proofs.fetch.Statement.{statement}
@@ -28,7 +36,7 @@ use Rattle.shelf.proofs.fetch.Code as code
 use Rattle.alc.specs.declared.Claim.{Claim}
 use Rattle.shelf.specs.Stored.{copied, goalOf}
 
-module _ (w : World) (copy : Knows (fun C.copy) w code.env) (blank-claim : Knows RF.blank-claim w code.env) (goal-of : Knows F.goal-of w code.env) where
+module _ (w : World) (copy : Knows (fun C.copy) w code.env) (blank-claim : Knows RF.blank-claim w code.env) where
   unfoldable body : Body! C.fetch 1 code.function w code.env
   body κs qs bs =
       calls RF.blank-claim blank-claim 4 [] tt (search own) (search own) ▸
@@ -38,7 +46,8 @@ module _ (w : World) (copy : Knows (fun C.copy) w code.env) (blank-claim : Knows
       (search own, search own, refl, (search own, (search own, search own, refl, (search own, (search own, tt))))) (search own) ▸
       backs-all (claim .R) 64 8 5 1 (λ x. x) (λ x. x) (search own) ▹
       copies-all (claim .R) tt 64 5 9 (λ x. x) (λ x. x) (search own) ▸
-      calls F.goal-of goal-of 0 [] (record { pos = 9; st = []; d = 0; at = λ x. x }, (vAt 3 (λ x. x), tt)) ((RC.claims-copied w 64, refl), (search own, tt)) (search own) ▸
+      makes-of GT.the-type GT′.the-laws GT′.the-plain 9 0 (oAt 9 (tyArray (mirOf claim) 64) RC.claimsV ∷ oAt 3 i64 nat ∷ []) (λ m. goalOf (m .1 .1 .1 .1 .1 .1 .1 .1 .1 .0) (m .1 .1 .1 .0)) (λ l. Is (Array T.the-row 64) l (RC.claimsV l ∷ [])) (search own)
+      (λ m k. (made-array T.the-field T′.the-field-laws 64 (m .1 .1 .1 .1 .1 .1 .1 .1 .1 .0) k, (made-wt u64-field u64-laws u64-wt (m .1 .1 .1 .0), tt))) ▸
       clears (2 ∷ 3 ∷ 4 ∷ 5 ∷ 6 ∷ 9 ∷ []) (used w num, (used w num, (RC.claim-gone w, (RC.claims-gone w 64, (used w sUnit, (RC.claims-gone w 64, tt)))))) (
       returns tt))
 
@@ -52,10 +61,7 @@ module _ (w : World) (copy : Knows (fun C.copy) w code.env) (blank-claim : Knows
         λ _. (omega (arith, pre .0, length-replicate 64 (c .1)), pre .1),
         λ f. (
           refl,
-          λ same. (
-            λ _. tt,
-            λ g. ((refl, (tt, (tt, tt))), g .5 ∙ ap (λ (l : List Claim). goalOf l n) (f .5 ∙ ap (λ (t : List Claim). copied t 0 (room .now) base n) (ap (replicate 64) (c .5) ∙ blanks-are))),
-          ),
+          λ same. ((refl, (tt, (tt, tt))), ap (λ (l : List Claim). goalOf l n) (f .5 ∙ ap (λ (t : List Claim). copied t 0 (room .now) base n) (ap (replicate 64) (c .5) ∙ blanks-are))),
         ),
       ),
     ),
@@ -67,5 +73,4 @@ fetch-spec 𝓤 H 𝓜 𝓖 𝓡 =
     let w : World = record { M = _; 𝓤 = 𝓤; H = H; 𝓜 = 𝓜; 𝓖 = 𝓖; 𝓡 = 𝓡 } in
     let copy = knows C.copy w code.env P.copy.Symbol.routine code.calls-shelf·copy (P.copy.Met.met 𝓤 H 𝓜 𝓖 𝓡) in
     let blank-claim = RF.blank-claim! w code.env code.calls-room·blank-claim in
-    let goal-of = F.goal-of! w code.env code.calls-shelf·goal-of in
-    proved C.fetch 1 code.function w code.env name (code.unfolded 𝓤 H 𝓜 𝓡) (body w copy blank-claim goal-of) (met w copy blank-claim goal-of)
+    proved C.fetch 1 code.function w code.env name (code.unfolded 𝓤 H 𝓜 𝓡) (body w copy blank-claim) (met w copy blank-claim)
