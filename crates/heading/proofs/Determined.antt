@@ -26,14 +26,14 @@ use Rattle.alc.proofs.ShownLaws.{lineAt, table-length, table-at}
 use Rattle.goals.proofs.RecordLaws.{kind-same}
 use Rattle.heading.specs.declared.Listed.{Listed}
 use Rattle.heading.specs.declared.Heading.{Heading}
-use Rattle.heading.specs.Parts.{inTable, inClaims, Through, none, line, TableEnd, ClaimsEnd, ClaimsLead, TableRead, ClaimsRead, Columns}
+use Rattle.heading.specs.Parts.{inTable, inClaims, Through, none, line, TableEnd, ClaimsEnd, ClaimsLead, SameAt, TableRead, ClaimsRead, Columns}
 use Rattle.heading.specs.Parts
 use Rattle.heading.proofs.Through.{Stuck, found-same, stage, Same, turn, out-of-table, through-on, through-either, both-last, both-stuck, apart}
 use Rattle.heading.proofs.Stops.{in-claims, claims-halts, claims-apart}
 
 -- columns with the same table have the same numbers in its lines, since the kinds of a line are one for each number below 8
 pub columns-once : {ks xs ys us vs ws : List ℕ} {n m : ℕ} → Columns ks xs ys n → Columns us vs ws m → tableOf ks xs ys n ≡ tableOf us vs ws m
-    → (i : ℕ) → i < n → (getD ks i 0 ≡ getD us i 0) × (getD xs i 0 ≡ getD vs i 0) × (getD ys i 0 ≡ getD ws i 0)
+    → (i : ℕ) → i < n → SameAt i ks xs ys us vs ws
 columns-once {ks} {xs} {ys} {us} {vs} {ws} {n} {m} c d e i h =
     let k : i < m = omega (arith, h, table-length ks xs ys n, ap (λ (T : Table). length T) e, table-length us vs ws m) in
     let line : lineAt ks xs ys i ≡ lineAt us vs ws i = sym (table-at ks xs ys n i first h) ∙ ap (λ (T : Table). getD T i first) e ∙ table-at us vs ws m i first k in (
@@ -109,10 +109,10 @@ module _ {text ks₀ xs₀ ys₀ ks xs ys us vs ws : List ℕ} {r s : Listed} (t
           ∙ sym (table-number (u .ends))
 
   -- and the columns, at every place
-  pub one-column : (i : ℕ) → (getD ks i 0 ≡ getD us i 0) × (getD xs i 0 ≡ getD vs i 0) × (getD ys i 0 ≡ getD ws i 0)
+  pub one-column : (i : ℕ) → SameAt i ks xs ys us vs ws
   one-column i = go (decLt i (r .count))
     where
-      go : Dec (i < r .count) → (getD ks i 0 ≡ getD us i 0) × (getD xs i 0 ≡ getD vs i 0) × (getD ys i 0 ≡ getD ws i 0)
+      go : Dec (i < r .count) → SameAt i ks xs ys us vs ws
       go (yes h) = columns-once (t .columns) (u .columns) one-table i h
       go (no h) =
           let a = t .kept i (omega arith) in

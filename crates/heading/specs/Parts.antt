@@ -60,9 +60,13 @@ pub data TableEnd (T : Table) : Next → ℕ → Type 0 where
   other : {l : Line} {next : ℕ} → 8 ≤ l .word → TableEnd T (Found l next) 0
   over : TableEnd T End 0
 
+-- three columns hold at place i what three others do
+abbrev pub SameAt : ℕ → List ℕ → List ℕ → List ℕ → List ℕ → List ℕ → List ℕ → Type 0
+SameAt i ks xs ys us vs ws = (getD ks i 0 ≡ getD us i 0) × (getD xs i 0 ≡ getD vs i 0) × (getD ys i 0 ≡ getD ws i 0)
+
 -- from place n on the columns hold what they held before
 abbrev pub Kept : ℕ → List ℕ → List ℕ → List ℕ → List ℕ → List ℕ → List ℕ → Type 0
-Kept n ks₀ xs₀ ys₀ ks xs ys = (i : ℕ) → n ≤ i → (getD ks i 0 ≡ getD ks₀ i 0) × (getD xs i 0 ≡ getD xs₀ i 0) × (getD ys i 0 ≡ getD ys₀ i 0)
+Kept n ks₀ xs₀ ys₀ ks xs ys = (i : ℕ) → n ≤ i → SameAt i ks xs ys ks₀ xs₀ ys₀
 
 -- what the reading of the table comes to, with what the columns held before: so many lines of the text are the columns' table, behind it nothing has
 -- changed, and what follows the lines has this number

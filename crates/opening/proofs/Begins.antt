@@ -6,7 +6,7 @@ use mathlib.Core.Bool.{false≢true}
 use mathlib.Core.List.{List, [], _∷_}
 use mathlib.Core.Path.{_≡_, refl, sym, ap, subst, _∙_}
 use native.Mathlib.Omega.{arith}
-use lib.ListN.{length, getD, length-replicate}
+use lib.ListN.{length, length-replicate}
 use borrow.Author.Tests.{lt-leb, le-leb}
 use Rattle.lines.specs.Text.{linesOf}
 use Rattle.alc.specs.Rows.{refusal}
@@ -41,11 +41,6 @@ pub verdict-short : (n : ℕ) (text : List ℕ) → 1088 ≤ n → length text �
 unfolding verdict
 verdict-short n text w h = let e : refusal (outerRows n text) ≡ 0 = rw (le-leb 1088 n w, le-leb (length text) 65535 h) in ap (next text) e
 
--- a column that holds no line has no number
-no-number : (i : ℕ) → getD noColumn i 0 ≡ 0
-unfolding noColumn
-no-number i = zeros 256 i
-
 -- an opening after which no derivation follows
 pub opens-decided : (n : ℕ) (text : List ℕ) (o : Opening) (a : Answer)
     → (o ≡ decidedOf a (begunOf (o .state .goal) 0 0)) × (o .state .goal .count ≡ 0)
@@ -59,7 +54,7 @@ opens-decided n text o a e none h = record {
     empty = e .1;
   };
   begins = λ f. absurd (false≢true (sym (ap (λ (p : Opening). p .follows) (e .0)) ∙ f));
-  unused = subst Unused (sym (e .0)) (λ i _. (no-number i, no-number i, no-number i));
+  unused = subst Unused (sym (e .0)) (λ i _. (refl, refl, refl));
 }
 
 -- an opening after which one does
@@ -72,7 +67,7 @@ opens-following n text o entries ks xs ys claims at lines cs e columns kept fits
   begins = λ f.
       subst (Begins n text) (sym e)
       (record { answer = refl; columns = columns; fits = fits; state = refl; small = few; cs = cs; current = shown; follows = follows });
-  unused = subst Unused (sym e) (λ i h. let k = kept i h in (k .0 ∙ no-number i, k .1 ∙ no-number i, k .2 ∙ no-number i));
+  unused = subst Unused (sym e) kept;
 }
 
 -- what an opening comes to after which a derivation follows: its first step can be read, and the verdict from there on is that of the text

@@ -6,12 +6,13 @@ use mathlib.Core.List.{List, [], map}
 use mathlib.Core.Path.{_≡_, refl, sym, ap, _∙_}
 use native.Mathlib.Omega.{arith}
 use native.Mathlib.Decide.{decLt}
-use lib.ListN.{length, take, getD}
+use lib.ListN.{length, take}
 use Rattle.alc.specs.Table.{Table}
 use Rattle.alc.specs.Shown.{answered, recordOf, records, tableOf}
 use Rattle.alc.specs.Verdict.{State as Judged}
 use Rattle.alc.specs.declared.Goal.{Goal as Records}
 use Rattle.alc.proofs.ShownLaws.{table-length}
+use Rattle.heading.specs.Parts.{SameAt}
 use Rattle.heading.proofs.Through.{both-last}
 use Rattle.heading.proofs.Determined.{columns-once}
 use Rattle.states.specs.Standing.{stateOf, begunOf}
@@ -28,8 +29,8 @@ abbrev pub withGoal : Records → State → State
 withGoal g s = stateOf g (s .counts) (s .open) (s .steps) (s .lines) (s .at) (s .ended) (s .number)
 
 -- their columns hold the same at place i
-abbrev SameAt : Opening → Opening → ℕ → Type 0
-SameAt o p i = (getD (o .kinds) i 0 ≡ getD (p .kinds) i 0) × (getD (o .firsts) i 0 ≡ getD (p .firsts) i 0) × (getD (o .seconds) i 0 ≡ getD (p .seconds) i 0)
+abbrev Agree : Opening → Opening → ℕ → Type 0
+Agree o p i = SameAt i (o .kinds) (o .firsts) (o .seconds) (p .kinds) (p .firsts) (p .seconds)
 
 -- the two openings are the same, but for what lies behind the count of the goal
 pub record Alike (o p : Opening) : Type 0 where
@@ -37,7 +38,7 @@ pub record Alike (o p : Opening) : Type 0 where
   pub answer : answered (o .answer) ≡ answered (p .answer)
   pub entries : o .entries ≡ p .entries
   pub table : tableIn o ≡ tableIn p
-  pub columns : (i : ℕ) → SameAt o p i
+  pub columns : (i : ℕ) → Agree o p i
   pub goal : records (o .state .goal) ≡ records (p .state .goal)
   pub state : (g : Records) → withGoal g (o .state) ≡ withGoal g (p .state)
 
@@ -50,10 +51,10 @@ none-read o e = ap (tableOf (o .kinds) (o .firsts) (o .seconds)) e
 
 module _ {n : ℕ} {text : List ℕ} (o p : Opening) (u : Opens n text o) (v : Opens n text p) where
   -- the columns are the same at every place if they are in the lines of the table
-  same-columns : o .entries ≡ p .entries → ((i : ℕ) → i < o .entries → SameAt o p i) → (i : ℕ) → SameAt o p i
+  same-columns : o .entries ≡ p .entries → ((i : ℕ) → i < o .entries → Agree o p i) → (i : ℕ) → Agree o p i
   same-columns e h i = go (decLt i (o .entries))
     where
-      go : Dec (i < o .entries) → SameAt o p i
+      go : Dec (i < o .entries) → Agree o p i
       go (yes l) = h i l
       go (no l) =
           let a = u .unused i (omega arith) in

@@ -4,13 +4,13 @@ use Prim.Native.Nat.{ℕ, _≤_}
 use mathlib.Core.Bool.{true, false}
 use mathlib.Core.List.{List, [], _∷_}
 use mathlib.Core.Path.{_≡_}
-use lib.ListN.{length, getD, replicate}
+use lib.ListN.{length, replicate}
 use Rattle.alc.specs.Table.{Table}
 use Rattle.alc.specs.Claims.{Sided}
 use Rattle.alc.specs.Shown.{Shows, tableOf, answered}
 use Rattle.alc.specs.Verdict.{begin, verdict}
 use Rattle.alc.specs.declared.Answer.{Answer}
-use Rattle.heading.specs.Parts.{Columns, inSteps, Through}
+use Rattle.heading.specs.Parts.{Columns, Kept, inSteps, Through}
 use Rattle.states.specs.Standing.{begunOf}
 use Rattle.states.specs.declared.State.{State}
 use Rattle.steps.specs.Acting.{Fits}
@@ -54,9 +54,9 @@ pub record Decides (n : ℕ) (text : List ℕ) (o : Opening) : Type 0 where
   pub state : o .state ≡ begunOf (o .state .goal) 0 0
   pub empty : o .state .goal .count ≡ 0
 
--- behind the lines of its table the columns are 0
+-- behind the lines of its table its columns are as those that hold no line
 abbrev pub Unused : Opening → Type 0
-Unused o = (i : ℕ) → o .entries ≤ i → (getD (o .kinds) i 0 ≡ 0) × (getD (o .firsts) i 0 ≡ 0) × (getD (o .seconds) i 0 ≡ 0)
+Unused o = Kept (o .entries) noColumn noColumn noColumn (o .kinds) (o .firsts) (o .seconds)
 
 -- the opening of a text with a lent room of n records
 pub record Opens (n : ℕ) (text : List ℕ) (o : Opening) : Type 0 where
