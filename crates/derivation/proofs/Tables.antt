@@ -4,7 +4,7 @@ use mathlib.Core.Path.{_≡_, refl}
 use mathlib.Core.List.{List, [], _∷_}
 use Prim.Native.Nat.{ℕ, _≤_}
 use lib.ListN.{length, replicate}
-use mir.Syntax.{Ty, tyRef, imm, tyInt, tyBool, named, erased, w8, w64}
+use mir.Syntax.{Ty, tyRef, imm, tyInt, tyBool, named, erased, w8, w64, mut}
 use mir.Val.{vint, vbool}
 use base.Fml.{Lft, Share}
 use denote.Exit.{yes}
@@ -105,7 +105,7 @@ module _ (w : World) where
   state-ended = reads-field (w .𝓤) (w .H) (w .𝓖 .A) (W w) ST.the-type ST′.the-laws 6 tyBool 504 refl
 
   -- the room while it is lent as a `&[Claim]`
-  pub room-shared : (κ : Lft) (q : Share) → ReadsAt (w .𝓤) (w .H) (w .𝓖 .A) (mslice-owedS T.the-row (ref T.the-row (named 0)) 0 5 (lease κ q)) (tyInt w64) 8 (λ x. lenV (x .0))
+  pub room-shared : (κ : Lft) (q : Share) → ReadsAt (w .𝓤) (w .H) (w .𝓖 .A) (mslice-owedS T.the-row (ref mut T.the-row (named 0)) 0 5 (lease κ q)) (tyInt w64) 8 (λ x. lenV (x .0))
   room-shared κ q = len-owedS w T.the-row (named 0) 0 5 (lease κ q)
 
   pub bytes-whole : (j : ℕ) → ReadsAs (w .𝓤) (w .H) (w .𝓖 .A) (sslice bytes (τ j) j) (sliceTy (τ j)) sliceV

@@ -5,7 +5,7 @@ use mathlib.Core.List.{[], _∷_, List, map-map}
 use Prim.Native.Nat.{ℕ, _<_}
 use lib.ListN.{length, set, getD, replicate}
 use lib.Dec.{lit<}
-use mir.Syntax.{Ty, Lifetime, tyArray, tyInt, named, erased, w64}
+use mir.Syntax.{Ty, Lifetime, tyArray, tyInt, named, erased, w64, mut, imm}
 use mir.Val.{Val, vint}
 use base.Fml.{Lft, Share}
 use denote.Exit.{yes}
@@ -47,7 +47,7 @@ use Rattle.alc.specs.Shown.{blank}
 use Rattle.alc.specs.declared.Claim.{Claim}
 use Rattle.alc.specs.declared.Goal.{Goal}
 use Rattle.room.proofs.Says.{Con}
-use Rattle.room.proofs.Walk.{ev, W, TellsIs, Data, Elem, mirOf, ref, refS, copied, let-go, ptr-of, len-of, slice-of, len-owed, ptr-ofS, slice-ofS, slice-goneS, struct-read, struct-is, array-full, array-gone}
+use Rattle.room.proofs.Walk.{ev, W, TellsIs, Data, Elem, mirOf, ref, copied, let-go, ptr-of, len-of, slice-of, len-owed, slice-gone, struct-read, struct-is, array-full, array-gone}
 
 -- ---- types
 abbrev pub num : Sc
@@ -131,31 +131,31 @@ module _ (w : World) where
   pub goal-is : TellsIs (w .𝓤) (w .H) (w .𝓖 .A) (whole GT.the-row) (λ g. Is GT.the-row g (L.val GT.the-type GT′.the-laws g ∷ []))
   goal-is = struct-is w GT.the-type GT′.the-laws
 
-  pub room-ptr : ReadsAt (w .𝓤) (w .H) (w .𝓖 .A) (mslice T.the-row (ref T.the-row (named 0)) 0) (ref T.the-row (named 0)) 0 ptrVal
-  room-ptr = ptr-of w T.the-row (named 0) 0
+  pub room-ptr : ReadsAt (w .𝓤) (w .H) (w .𝓖 .A) (mslice T.the-row (ref mut T.the-row (named 0)) 0) (ref mut T.the-row (named 0)) 0 ptrVal
+  room-ptr = ptr-of w T.the-row mut (named 0) 0
 
-  pub room-len : ReadsAt (w .𝓤) (w .H) (w .𝓖 .A) (mslice T.the-row (ref T.the-row (named 0)) 0) (tyInt w64) 8 lenV
+  pub room-len : ReadsAt (w .𝓤) (w .H) (w .𝓖 .A) (mslice T.the-row (ref mut T.the-row (named 0)) 0) (tyInt w64) 8 lenV
   room-len = len-of w T.the-row (named 0) 0
 
   -- lent at the lifetime β
-  pub room-lent : (β : ℕ) (κ : Lft) (q : Share) → ReadsAt (w .𝓤) (w .H) (w .𝓖 .A) (mslice-owed T.the-row (ref T.the-row (named 0)) 0 β (lease κ q)) (tyInt w64) 8 (λ x. lenV (x .0))
+  pub room-lent : (β : ℕ) (κ : Lft) (q : Share) → ReadsAt (w .𝓤) (w .H) (w .𝓖 .A) (mslice-owed T.the-row (ref mut T.the-row (named 0)) 0 β (lease κ q)) (tyInt w64) 8 (λ x. lenV (x .0))
   room-lent β κ q = len-owed w T.the-row (named 0) 0 β (lease κ q)
 
-  pub lent-whole : (β : ℕ) → ReadsAs (w .𝓤) (w .H) (w .𝓖 .A) (mslice T.the-row (ref T.the-row erased) β) (sliceTy (ref T.the-row erased)) sliceV
-  lent-whole β = slice-of w T.the-row erased β
+  pub lent-whole : (β : ℕ) → ReadsAs (w .𝓤) (w .H) (w .𝓖 .A) (mslice T.the-row (ref mut T.the-row erased) β) (sliceTy (ref mut T.the-row erased)) sliceV
+  lent-whole β = slice-of w T.the-row mut erased β
 
   -- a run that is shared, as a parameter
-  pub seen-ptr : (j : ℕ) → ReadsAt (w .𝓤) (w .H) (w .𝓖 .A) (sslice T.the-row (refS T.the-row (named j)) j) (refS T.the-row (named j)) 0 ptrVal
-  seen-ptr j = ptr-ofS w T.the-row (named j) j
+  pub seen-ptr : (j : ℕ) → ReadsAt (w .𝓤) (w .H) (w .𝓖 .A) (sslice T.the-row (ref imm T.the-row (named j)) j) (ref imm T.the-row (named j)) 0 ptrVal
+  seen-ptr j = ptr-of w T.the-row imm (named j) j
 
-  pub seen-whole : (ℓ : Lifetime) (j : ℕ) → ReadsAs (w .𝓤) (w .H) (w .𝓖 .A) (sslice T.the-row (refS T.the-row ℓ) j) (sliceTy (refS T.the-row ℓ)) sliceV
-  seen-whole ℓ j = slice-ofS w T.the-row ℓ j
+  pub seen-whole : (ℓ : Lifetime) (j : ℕ) → ReadsAs (w .𝓤) (w .H) (w .𝓖 .A) (sslice T.the-row (ref imm T.the-row ℓ) j) (sliceTy (ref imm T.the-row ℓ)) sliceV
+  seen-whole ℓ j = slice-of w T.the-row imm ℓ j
 
-  pub seen-spare : (ℓ : Lifetime) (j : ℕ) → Spares (w .𝓤) (w .H) (w .𝓖 .A) (sslice T.the-row (refS T.the-row ℓ) j) (λ ρ x. ShrSlice erased (lft ρ j) T.the-row .own x)
-  seen-spare ℓ j = spares-sslice (w .𝓤) (w .H) (w .𝓖 .A) (W w) T.the-row (refS T.the-row ℓ) j
+  pub seen-spare : (ℓ : Lifetime) (j : ℕ) → Spares (w .𝓤) (w .H) (w .𝓖 .A) (sslice T.the-row (ref imm T.the-row ℓ) j) (λ ρ x. ShrSlice erased (lft ρ j) T.the-row .own x)
+  seen-spare ℓ j = spares-sslice (w .𝓤) (w .H) (w .𝓖 .A) (W w) T.the-row (ref imm T.the-row ℓ) j
 
-  pub seen-gone : (j : ℕ) → ToRoom (w .𝓤) (w .H) (w .𝓖 .A) (sslice T.the-row (refS T.the-row erased) j) (sliceTy (refS T.the-row erased))
-  seen-gone j = slice-goneS w T.the-row erased j
+  pub seen-gone : (j : ℕ) → ToRoom (w .𝓤) (w .H) (w .𝓖 .A) (sslice T.the-row (ref imm T.the-row erased) j) (sliceTy (ref imm T.the-row erased))
+  seen-gone j = slice-gone w T.the-row erased j
 
   -- a local array of records: made by a repeat, copied, let go
   pub claim-read : ReadsAs (w .𝓤) (w .H) (w .𝓖 .A) (whole T.the-row) (mirOf claim) (L.val T.the-type T′.the-laws)

@@ -6,7 +6,7 @@ use mathlib.Core.List.{List, [], _∷_}
 use Prim.Native.Nat.{ℕ}
 use native.Mathlib.Omega.{arith}
 use lib.ListN.{replicate}
-use mir.Syntax.{tyBool, bitNot, field, named, erased}
+use mir.Syntax.{tyBool, bitNot, field, named, erased, mut}
 use mir.Val.{vbool}
 use contract.Running.{tablesOf}
 use borrow.Author.Tests.{not-true, not-false}
@@ -17,7 +17,7 @@ use borrow.Rule.Slice.Mut.{setVals}
 use borrow.Table.Row.{lease, sBool}
 use Rattle.room.proofs as R
 use Rattle.room.proofs.Says.{fun, Knows, knows}
-use Rattle.room.proofs.Walk.{Body!, Asks!, proved, same-len, tts, ref, _▸_, _▹_, _&_, works, copies, clears, returns, joins, blocks, loops, conds, skips, leaves, last, lends, calls, backs}
+use Rattle.room.proofs.Walk.{Body!, Asks!, proved, same-len, tts, ref, _▸_, _▹_, _&_, works, copies, clears, returns, joins, blocks, loops, conds, skips, leaves, last, begins, lends, slices, count, calls, ends, backs}
 use Rattle.room.proofs.Claims as RC
 use Rattle.room.proofs.Claims.{claim}
 use Rattle.alc.specs.Shown.{blank}
@@ -42,17 +42,17 @@ module _ (w : World) (step : Knows (fun C.step) w code.env) (blank-all : Knows (
       (λ (r, (room, (text, rest))) (l, cur). left (text .now) cur) (
       works 9 sBool bitNot (oFld 8 (field 6 ∷ []) tyBool 504 (λ s. vbool (s .ended))) (search rules) ▸
       joins (conds 9 (λ x. x) (search rules) (clears (9 ∷ []) (search rules) (skips tt)) (clears (9 ∷ []) (search rules) (leaves 1 tt))) (
-      lends (claim .R) 1 10 11 0 5 (named 0) (lease (κs .0) (qs .0)) (λ x. x) (λ x. x) (λ x. x) (tts 15) (search rules) (search rules) (
+      begins 5 (tts 15) ▹ lends mut (claim .R) 1 10 0 5 (named 0) (lease (κs .0) (qs .0)) (λ x. x) (search rules) ▸ slices mut (claim .R) 10 11 5 (λ x. x) (count 1 (λ x. x)) (search rules) ▸
       last tt (calls (fun C.step) step 8 (5 ∷ 1 ∷ 2 ∷ 3 ∷ 4 ∷ [])
-      (record { pos = 11; ty = ref (claim .R) erased; ref = λ x. x }, (record { pos = 2; ty = τ 1; ref = λ x. x }, (record { pos = 3; ty = τ 2; ref = λ x. x }, (record { pos = 4; ty = τ 3; ref = λ x. x }, (record { pos = 5; ty = τ 4; ref = λ x. x }, (vAt 6 (λ x. x), (record { pos = 8; st = []; d = 0; at = λ x. x }, tt)))))))
+      (record { pos = 11; ty = ref mut (claim .R) erased; ref = λ x. x }, (record { pos = 2; ty = τ 1; ref = λ x. x }, (record { pos = 3; ty = τ 2; ref = λ x. x }, (record { pos = 4; ty = τ 3; ref = λ x. x }, (record { pos = 5; ty = τ 4; ref = λ x. x }, (vAt 6 (λ x. x), (record { pos = 8; st = []; d = 0; at = λ x. x }, tt)))))))
       (search rules, search rules, refl, (search rules, search rules, refl, (search rules, search rules, refl, (search rules, search rules, refl, (search rules, search rules, refl, (search rules, (search rules, tt))))))) (search rules)
-      & backs (claim .R) 11 1 0 5 (named 0) (lease (κs .0) (qs .0)) (λ x. x) (λ x. x) (search rules)))))))
-      (lends (claim .R) 1 13 14 0 5 (named 0) (lease (κs .0) (qs .0)) (λ x. x) (λ x. x) (λ x. x) (tts 15) (search rules) (search rules) (
-      calls (fun RC.blank-all) blank-all 12 (5 ∷ []) (record { pos = 14; ty = ref (claim .R) erased; ref = λ x. x }, tt) (search rules) (search rules) ▸
-      backs (claim .R) 14 1 0 5 (named 0) (lease (κs .0) (qs .0)) (λ x. x) (λ x. x) (search rules) ▹ clears (12 ∷ []) (search rules) (
+      & ends 5 refl (backs (claim .R) 11 1 0 5 (named 0) (lease (κs .0) (qs .0)) (λ x. x) (λ x. x) (search rules)))))))
+      (begins 5 (tts 15) ▹ lends mut (claim .R) 1 13 0 5 (named 0) (lease (κs .0) (qs .0)) (λ x. x) (search rules) ▸ slices mut (claim .R) 13 14 5 (λ x. x) (count 1 (λ x. x)) (search rules) ▸
+      calls (fun RC.blank-all) blank-all 12 (5 ∷ []) (record { pos = 14; ty = ref mut (claim .R) erased; ref = λ x. x }, tt) (search rules) (search rules) ▸
+      ends 5 refl (backs (claim .R) 14 1 0 5 (named 0) (lease (κs .0) (qs .0)) (λ x. x) (λ x. x) (search rules)) ▹ clears (12 ∷ []) (search rules) (
       calls F.answer-of answer-of 0 [] (record { pos = 8; st = []; d = 0; at = λ x. x }, tt) (search rules) (search rules) ▸
       clears (6 ∷ 7 ∷ 8 ∷ []) (search rules) (
-      returns tt))))
+      returns tt)))
 
   met : Asks! C.judge-steps 1 code.function w code.env body
   unfolding body

@@ -5,7 +5,7 @@ use mathlib.Core.List.{List, [], _∷_}
 use Prim.Native.Nat.{ℕ, _<_, _≤_, _+_}
 use native.Mathlib.Omega.{arith}
 use lib.ListN.{length}
-use mir.Syntax.{w8, eq, named, erased, field, cast, unsigned, w64}
+use mir.Syntax.{w8, eq, named, erased, field, cast, unsigned, w64, mut, imm}
 use contract.Running.{tablesOf}
 use borrow.Author.Tests.{eqb-true, eqb-false}
 use borrow.Fn.Args.{vAt, vFld}
@@ -13,7 +13,7 @@ use borrow.Fn.World.{World}
 use borrow.Rule.Scalar.{oFld, oInt}
 use borrow.Table.Row.{sBool, sUnit, lease, valS}
 use Rattle.room.proofs.Says.{fun, Knows, knows}
-use Rattle.room.proofs.Walk.{used, Body!, Asks!, proved, same-len, tts, ref, refS, _▸_, _▹_, calcs, works, copies, clears, returns, joins, conds, skips, lends, calls, backs, shares, unshares}
+use Rattle.room.proofs.Walk.{used, Body!, Asks!, proved, same-len, tts, ref, _▸_, _▹_, calcs, works, copies, clears, returns, joins, conds, skips, begins, lends, slices, count, calls, ends, backs, unshares}
 use Rattle.room.proofs.Claims as RC
 use Rattle.room.proofs.Claims.{claim, num}
 use Rattle.shelf.proofs as S
@@ -74,23 +74,23 @@ module _ (w : World) (store : Knows (fun SC.store) w code.env) (fetch : Knows (f
       calcs 11 sBool eq (oFld 8 (field 0 ∷ []) i8 0 (λ a. valS byte (a .kind))) (oInt w8 1) (search rules) ▸
       joins (conds 11 (λ x. x) (search rules) (
       calls F.after after 9 [] (record { pos = 7; st = []; d = 0; at = λ x. x }, (record { pos = 8; st = []; d = 0; at = λ x. x }, tt)) (search rules, (search rules, tt)) (search rules) ▸
-      lends (claim .R) 1 13 14 0 5 (named 0) (lease (κs .0) (qs .0)) (λ x. x) (λ x. x) (λ x. x) (tts 19) (search rules) (search rules) (
+      begins 5 (tts 19) ▹ lends mut (claim .R) 1 13 0 5 (named 0) (lease (κs .0) (qs .0)) (λ x. x) (search rules) ▸ slices mut (claim .R) 13 14 5 (λ x. x) (count 1 (λ x. x)) (search rules) ▸
       calls F.aside aside 15 [] (record { pos = 9; st = []; d = 0; at = λ x. x }, (record { pos = 8; st = []; d = 0; at = λ x. x }, tt)) (search rules, (search rules, tt)) (search rules) ▸
-      calls (fun SC.store) store 12 (5 ∷ []) (record { pos = 14; ty = ref (claim .R) erased; ref = λ x. x }, (vFld 8 (field 1 ∷ []) 8 (λ a. a .base), (record { pos = 15; st = []; d = 0; at = λ x. x }, tt))) (search rules, search rules, refl, (search rules, (search rules, tt))) (search rules) ▸
-      backs (claim .R) 14 1 0 5 (named 0) (lease (κs .0) (qs .0)) (λ x. x) (λ x. x) (search rules) ▹
+      calls (fun SC.store) store 12 (5 ∷ []) (record { pos = 14; ty = ref mut (claim .R) erased; ref = λ x. x }, (vFld 8 (field 1 ∷ []) 8 (λ a. a .base), (record { pos = 15; st = []; d = 0; at = λ x. x }, tt))) (search rules, search rules, refl, (search rules, (search rules, tt))) (search rules) ▸
+      ends 5 refl (backs (claim .R) 14 1 0 5 (named 0) (lease (κs .0) (qs .0)) (λ x. x) (λ x. x) (search rules)) ▹
       copies state 9 0 (λ x. x) (λ x. x) (search rules) ▸
       clears (6 ∷ 7 ∷ 8 ∷ []) (used w num, (C.state-gone w, (C.act-gone w, tt))) (clears (9 ∷ 11 ∷ 12 ∷ 15 ∷ []) (C.state-gone w, (used w sBool, (used w sUnit, (RC.goal-gone w, tt)))) (
-      returns tt)))) (skips tt)) (
+      returns tt))) (skips tt)) (
       calcs 11 sBool eq (oFld 8 (field 0 ∷ []) i8 0 (λ a. valS byte (a .kind))) (oInt w8 2) (search rules) ▸
       joins (conds 11 (λ x. x) (search rules) (
-      shares (claim .R) 1 16 17 0 5 (named 0) (lease (κs .0) (qs .0)) (λ x. x) (λ x. x) (λ x. x) (tts 19) (search sharing) (search sharing) (
+      begins 5 (tts 19) ▹ lends imm (claim .R) 1 16 0 5 (named 0) (lease (κs .0) (qs .0)) (λ x. x) (search sharing) ▸ slices imm (claim .R) 16 17 5 (λ x. x) (count 1 (λ x. x)) (search sharing) ▸
       works 18 num (cast unsigned unsigned w64) (oFld 8 (field 2 ∷ []) i8 16 (λ a. valS byte (a .count))) (search rules) ▸
-      calls (fun SC.fetch) fetch 10 (5 ∷ []) (record { pos = 17; ty = refS (claim .R) erased; ref = λ x. x }, (vFld 8 (field 1 ∷ []) 8 (λ a. a .base), (vAt 18 (λ x. x), tt))) (search sharing, search sharing, refl, (search sharing, (search sharing, tt))) (search sharing) ▸
+      calls (fun SC.fetch) fetch 10 (5 ∷ []) (record { pos = 17; ty = ref imm (claim .R) erased; ref = λ x. x }, (vFld 8 (field 1 ∷ []) 8 (λ a. a .base), (vAt 18 (λ x. x), tt))) (search sharing, search sharing, refl, (search sharing, (search sharing, tt))) (search sharing) ▸
       clears (17 ∷ []) (RC.seen-gone w 5, tt) (
-      unshares (claim .R) 1 0 5 (named 0) (lease (κs .0) (qs .0)) (λ x. x) (search sharing) ▹
+      ends 5 refl (unshares (claim .R) 1 0 5 (named 0) (lease (κs .0) (qs .0)) (λ x. x) (search sharing)) ▹
       calls F.behind behind 0 [] (record { pos = 7; st = []; d = 0; at = λ x. x }, (record { pos = 8; st = []; d = 0; at = λ x. x }, (record { pos = 10; st = []; d = 0; at = λ x. x }, tt))) (search rules, (search rules, (search rules, tt))) (search rules) ▸
       clears (6 ∷ 7 ∷ 8 ∷ []) (used w num, (C.state-gone w, (C.act-gone w, tt))) (clears (10 ∷ 11 ∷ 18 ∷ []) (RC.goal-gone w, (used w sBool, (used w num, tt))) (
-      returns tt))))) (skips tt)) (
+      returns tt)))) (skips tt)) (
       calls F.after after 0 [] (record { pos = 7; st = []; d = 0; at = λ x. x }, (record { pos = 8; st = []; d = 0; at = λ x. x }, tt)) (search rules, (search rules, tt)) (search rules) ▸
       clears (6 ∷ 7 ∷ 8 ∷ []) (used w num, (C.state-gone w, (C.act-gone w, tt))) (clears (11 ∷ []) (used w sBool, tt) (
       returns tt))))

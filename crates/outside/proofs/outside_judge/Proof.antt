@@ -3,7 +3,7 @@
 use mathlib.Core.Path.{_≡_, refl, ap, _∙_}
 use mathlib.Core.List.{[], _∷_}
 use lib.ListN.{length, replicate}
-use mir.Syntax.{w64, named, erased}
+use mir.Syntax.{w64, named, erased, mut}
 use contract.Running.{tablesOf}
 use prog.Routine.{Env}
 use borrow.Fn.World.{World}
@@ -13,7 +13,7 @@ use Rattle.alc.specs.Shown.{blank}
 use Rattle.alc.specs.Verdict.{verdict}
 use Rattle.room.proofs.Claims.{claim}
 use Rattle.room.proofs.Says.{Con, Fun!, fun, Knows, knows}
-use Rattle.room.proofs.Walk.{Body!, Asks!, proved, same-len, tts, ref, _▸_, _▹_, clears, returns, lends, calls, backs}
+use Rattle.room.proofs.Walk.{Body!, Asks!, proved, same-len, tts, ref, _▸_, _▹_, clears, returns, begins, lends, slices, count, calls, ends, backs}
 use Rattle.verdict.proofs.judge as J
 use Rattle.outside.specs.Told.{packed}
 use Rattle.outside.proofs as P
@@ -43,12 +43,12 @@ pack! w γ e = P.pack_answer.Reads.known w γ P.pack_answer.Symbol.name P.pack_a
 module _ (w : World) (judges : Knows (fun judge) w code.env) (packs : Knows pack w code.env) where
   unfoldable body : Body! says 1 code.function w code.env
   body κs qs bs =
-      lends (claim .R) 1 4 5 0 2 (named 0) (lease (κs .0) (qs .0)) (λ x. x) (λ x. x) (λ x. x) (tts 6) (search lent) (search lent) (
-      calls (fun judge) judges 3 (2 ∷ 1 ∷ []) (record { pos = 5; ty = ref (claim .R) erased; ref = λ x. x }, (record { pos = 2; ty = τ 1; ref = λ x. x }, tt)) (search lent) (search lent) ▸
-      backs (claim .R) 5 1 0 2 (named 0) (lease (κs .0) (qs .0)) (λ x. x) (λ x. x) (search lent) ▹
+      begins 2 (tts 6) ▹ lends mut (claim .R) 1 4 0 2 (named 0) (lease (κs .0) (qs .0)) (λ x. x) (search lent) ▸ slices mut (claim .R) 4 5 2 (λ x. x) (count 1 (λ x. x)) (search lent) ▸
+      calls (fun judge) judges 3 (2 ∷ 1 ∷ []) (record { pos = 5; ty = ref mut (claim .R) erased; ref = λ x. x }, (record { pos = 2; ty = τ 1; ref = λ x. x }, tt)) (search lent) (search lent) ▸
+      ends 2 refl (backs (claim .R) 5 1 0 2 (named 0) (lease (κs .0) (qs .0)) (λ x. x) (λ x. x) (search lent)) ▹
       calls pack packs 0 [] (record { pos = 3; st = []; d = 0; at = λ x. x }, tt) (search lent) (search lent) ▸
       clears (3 ∷ []) (search lent) (
-      returns tt))
+      returns tt)
 
   met : Asks! says 1 code.function w code.env body
   unfolding body

@@ -5,7 +5,7 @@ use mathlib.Core.List.{List, [], _∷_, _++_}
 use Prim.Native.Nat.{ℕ, _≤_, _-_, _+_, _<_}
 use native.Mathlib.Omega.{arith}
 use lib.ListN.{length, set, replicate, drop}
-use mir.Syntax.{w64, add, lt, unsigned, field, named, erased}
+use mir.Syntax.{w64, add, lt, unsigned, field, named, erased, mut}
 use contract.Running.{tablesOf}
 use borrow.Author.Tests.{ltb-true, ltb-false}
 use borrow.Fn.Args.{vAt}
@@ -15,7 +15,7 @@ use borrow.Rule.Slice.Mut.{setVals}
 use borrow.Rule.Slice.Shared.{lenV}
 use borrow.Table.Row.{sBool, sUnit, lease}
 use Rattle.room.proofs.Says.{fun, Knows, knows}
-use Rattle.room.proofs.Walk.{Body!, Asks!, proved, same-len, tts, ref, _▸_, _▹_, calcs, sets, clears, returns, joins, blocks, loops, conds, skips, leaves, last, lends, calls, backs}
+use Rattle.room.proofs.Walk.{Body!, Asks!, proved, same-len, tts, ref, _▸_, _▹_, calcs, sets, clears, returns, joins, blocks, loops, conds, skips, leaves, last, begins, lends, slices, count, calls, ends, backs}
 use Rattle.room.proofs.Claims as C
 use Rattle.room.proofs.Claims.{num, i64, nat, claim, room}
 use Rattle.room.proofs as P
@@ -36,12 +36,12 @@ module _ (w : World) (put : Knows (fun C.put) w code.env) (blank-claim : Knows F
       sets 3 num (oFld 1 (field 1 ∷ []) i64 8 lenV) (search room) ▸
       calcs 4 sBool (lt unsigned) (oAt 2 i64 nat) (oAt 3 i64 nat) (search room) ▸
       joins (conds 4 (λ x. x) (search room) (clears (3 ∷ 4 ∷ []) (search room) (skips tt)) (clears (3 ∷ 4 ∷ []) (search room) (leaves 1 tt))) (
-      lends (claim .R) 1 6 7 0 1 (named 0) (lease (κs .0) (qs .0)) (λ x. x) (λ x. x) (λ x. x) (tts 9) (search room) (search room) (
+      begins 1 (tts 9) ▹ lends mut (claim .R) 1 6 0 1 (named 0) (lease (κs .0) (qs .0)) (λ x. x) (search room) ▸ slices mut (claim .R) 6 7 1 (λ x. x) (count 1 (λ x. x)) (search room) ▸
       calls F.blank-claim blank-claim 8 [] tt (search room) (search room) ▸
-      calls (fun C.put) put 5 (1 ∷ []) (record { pos = 7; ty = ref (claim .R) erased; ref = λ x. x }, (vAt 2 (λ x. x), (record { pos = 8; st = []; d = 0; at = λ x. x }, tt))) (search room) (search room) ▸
+      calls (fun C.put) put 5 (1 ∷ []) (record { pos = 7; ty = ref mut (claim .R) erased; ref = λ x. x }, (vAt 2 (λ x. x), (record { pos = 8; st = []; d = 0; at = λ x. x }, tt))) (search room) (search room) ▸
       clears (5 ∷ 8 ∷ []) (search room) (
-      backs (claim .R) 7 1 0 1 (named 0) (lease (κs .0) (qs .0)) (λ x. x) (λ x. x) (search room) ▹
-      last tt (calcs 2 num (add unsigned) (oAt 2 i64 nat) (oInt w64 1) (search room))))))))
+      ends 1 refl (backs (claim .R) 7 1 0 1 (named 0) (lease (κs .0) (qs .0)) (λ x. x) (λ x. x) (search room)) ▹
+      last tt (calcs 2 num (add unsigned) (oAt 2 i64 nat) (oInt w64 1) (search room)))))))
       (sets 0 sUnit oUnit (search room) ▸
       clears (2 ∷ []) (search room) (
       returns tt))

@@ -3,7 +3,7 @@
 use mathlib.Core.Path.{refl}
 use mathlib.Core.List.{[], _∷_}
 use lib.ListN.{set, length-set}
-use mir.Syntax.{w64, mul, unsigned, offset, field, named}
+use mir.Syntax.{w64, mul, unsigned, offset, field, named, mut}
 use contract.Running.{tablesOf}
 use borrow.Author.Needs.{scaled-fits}
 use borrow.Rule.Scalar.{oAt, oFld, oInt, oUnit}
@@ -21,7 +21,7 @@ module _ (w : World) where
   unfoldable body : Body! C.put 0 code.function w code.env
   body κs qs bs =
       calcs 4 num (mul unsigned) (oAt 2 i64 nat) (oInt w64 7) (search room) ▸
-      calcs 5 sPtr offset (oFld 1 (field 0 ∷ []) (ref (claim .R) (named 0)) 0 ptrVal) (oAt 4 i64 nat) (search room) ▸
+      calcs 5 sPtr offset (oFld 1 (field 0 ∷ []) (ref mut (claim .R) (named 0)) 0 ptrVal) (oAt 4 i64 nat) (search room) ▸
       stores cell 1 5 3 0 (named 0) (lease (κs .0) (qs .0)) (λ u. u .1 .1 .0) (λ x. x) (λ x. x) (λ x. x) (λ x. x) (search room) ▸
       sets 0 sUnit oUnit (search room) ▸
       clears (2 ∷ 3 ∷ 4 ∷ 5 ∷ []) (search room) (

@@ -5,7 +5,7 @@ use mathlib.Core.List.{List, [], _∷_}
 use Prim.Native.Nat.{ℕ, _≤_, _-_, _+_, _<_}
 use native.Mathlib.Omega.{arith}
 use lib.ListN.{length, set, getD}
-use mir.Syntax.{w64, add, lt, unsigned, named, erased}
+use mir.Syntax.{w64, add, lt, unsigned, named, erased, mut, imm}
 use contract.Running.{tablesOf}
 use borrow.Author.Tests.{ltb-true, ltb-false}
 use borrow.Fn.Args.{vAt}
@@ -14,7 +14,7 @@ use borrow.Rule.Scalar.{oAt, oInt, oUnit}
 use borrow.Rule.Slice.Mut.{setVals}
 use borrow.Table.Row.{sBool, sUnit, lease}
 use Rattle.room.proofs.Says.{fun, Knows, knows}
-use Rattle.room.proofs.Walk.{Body!, Asks!, proved, same-len, tts, ref, refS, _▸_, _▹_, calcs, sets, clears, returns, joins, blocks, loops, conds, skips, leaves, last, lends, calls, backs}
+use Rattle.room.proofs.Walk.{Body!, Asks!, proved, same-len, tts, ref, _▸_, _▹_, calcs, sets, clears, returns, joins, blocks, loops, conds, skips, leaves, last, begins, lends, slices, count, calls, ends, backs}
 use Rattle.room.proofs as P
 use Rattle.room.proofs.Claims as RC
 use Rattle.shelf.proofs.Goals as C
@@ -39,14 +39,14 @@ module _ (w : World) (put : Knows (fun RC.put) w code.env) (get : Knows (fun RC.
       (λ (r, (to, (at, (from, (base, (n, rest)))))) (l, i). (i ≤ n) × (l ≡ copied (to .now) at (from .now) base i)) (λ (r, (to, (at, (from, (base, (n, rest)))))) (l, i). n - i) (
       calcs 7 sBool (lt unsigned) (oAt 6 i64 nat) (oAt 5 i64 nat) (search run) ▸
       joins (conds 7 (λ x. x) (search run) (clears (7 ∷ []) (search run) (skips tt)) (clears (7 ∷ []) (search run) (leaves 1 tt))) (
-      lends (claim .R) 1 9 10 0 2 (named 0) (lease (κs .0) (qs .0)) (λ x. x) (λ x. x) (λ x. x) (tts 14) (search run) (search run) (
+      begins 2 (tts 14) ▹ lends mut (claim .R) 1 9 0 2 (named 0) (lease (κs .0) (qs .0)) (λ x. x) (search run) ▸ slices mut (claim .R) 9 10 2 (λ x. x) (count 1 (λ x. x)) (search run) ▸
       calcs 11 num (add unsigned) (oAt 2 i64 nat) (oAt 6 i64 nat) (search run) ▸
       calcs 13 num (add unsigned) (oAt 4 i64 nat) (oAt 6 i64 nat) (search run) ▸
-      calls (fun RC.get) get 12 (1 ∷ []) (record { pos = 3; ty = refS (claim .R) (named 1); ref = λ x. x }, (vAt 13 (λ x. x), tt)) (search run) (search run) ▸
-      calls (fun RC.put) put 8 (2 ∷ []) (record { pos = 10; ty = ref (claim .R) erased; ref = λ x. x }, (vAt 11 (λ x. x), (record { pos = 12; st = []; d = 0; at = λ x. x }, tt))) (search run) (search run) ▸
+      calls (fun RC.get) get 12 (1 ∷ []) (record { pos = 3; ty = ref imm (claim .R) (named 1); ref = λ x. x }, (vAt 13 (λ x. x), tt)) (search run) (search run) ▸
+      calls (fun RC.put) put 8 (2 ∷ []) (record { pos = 10; ty = ref mut (claim .R) erased; ref = λ x. x }, (vAt 11 (λ x. x), (record { pos = 12; st = []; d = 0; at = λ x. x }, tt))) (search run) (search run) ▸
       clears (8 ∷ 11 ∷ 12 ∷ 13 ∷ []) (search run) (
-      backs (claim .R) 10 1 0 2 (named 0) (lease (κs .0) (qs .0)) (λ x. x) (λ x. x) (search run) ▹
-      last tt (calcs 6 num (add unsigned) (oAt 6 i64 nat) (oInt w64 1) (search run))))))))
+      ends 2 refl (backs (claim .R) 10 1 0 2 (named 0) (lease (κs .0) (qs .0)) (λ x. x) (λ x. x) (search run)) ▹
+      last tt (calcs 6 num (add unsigned) (oAt 6 i64 nat) (oInt w64 1) (search run)))))))
       (sets 0 sUnit oUnit (search run) ▸
       clears (2 ∷ 4 ∷ 5 ∷ 6 ∷ []) (search run) (
       returns tt))

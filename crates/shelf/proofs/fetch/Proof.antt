@@ -4,7 +4,7 @@ use mathlib.Core.List.{List, [], _∷_}
 use native.Mathlib.Omega.{arith}
 use lib.Dec.{lit<}
 use lib.ListN.{replicate, length-replicate}
-use mir.Syntax.{tyArray, w64, named, erased}
+use mir.Syntax.{tyArray, w64, named, erased, mut, imm}
 use mir.Val.{vint}
 use contract.Running.{tablesOf}
 use borrow.Fn.Args.{vAt, vLit}
@@ -23,7 +23,7 @@ use Rattle.alc.proofs.Claim.Laws as T′
 use Rattle.alc.proofs.Goal as GT
 use Rattle.alc.proofs.Goal.Laws as GT′
 use Rattle.room.proofs.Says.{fun, Knows, knows}
-use Rattle.room.proofs.Walk.{used, Body!, Asks!, proved, tts, ref, refS, _▸_, _▹_, copies-all, makes-of, mirOf, clears, returns, repeats, calls, lends-all, backs-all}
+use Rattle.room.proofs.Walk.{used, Body!, Asks!, proved, tts, ref, _▸_, _▹_, copies-all, makes-of, mirOf, clears, returns, repeats, calls, begins, lends-all, slices, ends, backs-all}
 use Rattle.shelf.proofs as P
 use Rattle.room.proofs.Covered as RF
 use Rattle.room.proofs.Claims as RC
@@ -41,15 +41,15 @@ module _ (w : World) (copy : Knows (fun C.copy) w code.env) (blank-claim : Knows
   body κs qs bs =
       calls RF.blank-claim blank-claim 4 [] tt (search own) (search own) ▸
       repeats T.the-type T′.the-laws T′.the-copy T′.the-plain 64 4 5 (λ x. x) (λ x. x) (search own) ▸
-      lends-all (claim .R) 64 5 7 8 1 (λ x. x) (λ x. x) (oInt w64 64) (tts 10) (lit< tt, lit< tt) (search own) (search own) (
-      calls (fun C.copy) copy 6 (1 ∷ 0 ∷ []) (record { pos = 8; ty = ref (claim .R) erased; ref = λ x. x }, (vLit 0, (record { pos = 1; ty = refS (claim .R) (named 0); ref = λ x. x }, (vAt 2 (λ x. x), (vAt 3 (λ x. x), tt)))))
+      begins 1 (tts 10) ▹ lends-all mut (claim .R) 64 5 7 1 (λ x. x) (lit< tt, lit< tt) (search own) ▸ slices mut (claim .R) 7 8 1 (λ x. x) (oInt w64 64) (search own) ▸
+      calls (fun C.copy) copy 6 (1 ∷ 0 ∷ []) (record { pos = 8; ty = ref mut (claim .R) erased; ref = λ x. x }, (vLit 0, (record { pos = 1; ty = ref imm (claim .R) (named 0); ref = λ x. x }, (vAt 2 (λ x. x), (vAt 3 (λ x. x), tt)))))
       (search own, search own, refl, (search own, (search own, search own, refl, (search own, (search own, tt))))) (search own) ▸
-      backs-all (claim .R) 64 8 5 1 (λ x. x) (λ x. x) (search own) ▹
+      ends 1 refl (backs-all (claim .R) 64 8 5 1 (λ x. x) (λ x. x) (search own)) ▹
       copies-all (claim .R) tt 64 5 9 (λ x. x) (λ x. x) (search own) ▸
       makes-of GT.the-type GT′.the-laws GT′.the-plain 9 0 (oAt 9 (tyArray (mirOf claim) 64) RC.claimsV ∷ oAt 3 i64 nat ∷ []) (λ m. goalOf (m .1 .1 .1 .1 .1 .1 .1 .1 .1 .0) (m .1 .1 .1 .0)) (λ l. Is (Array T.the-row 64) l (RC.claimsV l ∷ [])) (search own)
       (λ m k. (made-array T.the-field T′.the-field-laws 64 (m .1 .1 .1 .1 .1 .1 .1 .1 .1 .0) k, (made-wt u64-field u64-laws u64-wt (m .1 .1 .1 .0), tt))) ▸
       clears (2 ∷ 3 ∷ 4 ∷ 5 ∷ 6 ∷ 9 ∷ []) (used w num, (used w num, (RC.claim-gone w, (RC.claims-gone w 64, (used w sUnit, (RC.claims-gone w 64, tt)))))) (
-      returns tt))
+      returns tt)
 
   met : Asks! C.fetch 1 code.function w code.env body
   unfolding body

@@ -4,7 +4,7 @@ use mathlib.Core.List.{[], _∷_, map-map}
 use native.Mathlib.Omega.{arith}
 use lib.Dec.{lit<}
 use lib.ListN.{length}
-use mir.Syntax.{w64, field, named, erased}
+use mir.Syntax.{w64, field, named, erased, mut, imm}
 use mir.Val.{Val, vint}
 use contract.Running.{tablesOf}
 use borrow.Fn.Args.{vAt, vFld, vLit}
@@ -17,7 +17,7 @@ use borrow.Kind.Value.{ValuedLaws}
 use borrow.Rule.Scalar.{oInt, oUnit}
 use borrow.Table.Row.{sUnit, lease}
 use Rattle.room.proofs.Says.{fun, Knows, knows}
-use Rattle.room.proofs.Walk.{W, used, Body!, Asks!, proved, same-len, tts, ref, refS, _▸_, _▹_, sets, takes, clears, returns, lends, calls, backs, shares-all, unshares-all}
+use Rattle.room.proofs.Walk.{W, used, Body!, Asks!, proved, same-len, tts, ref, _▸_, _▹_, sets, takes, clears, returns, begins, lends, slices, count, calls, ends, backs, lends-all, unshares-all}
 use Rattle.shelf.proofs as P
 use Rattle.alc.proofs.Claim as T
 use Rattle.alc.proofs.Claim.Laws as T′
@@ -45,16 +45,16 @@ module _ (w : World) (copy : Knows (fun C.copy) w code.env) where
   unfoldable body : Body! C.store 2 code.function w code.env
   body κs qs bs =
       takes GT.the-type GT′.the-laws (Array T.the-row 64) refl RC.claimsV (laws .lawful) (laws .makes) (λ g. g .claims) claims-is 0 0 3 4 (λ g. g) (search own) ▸
-      lends (claim .R) 1 6 7 0 1 (named 0) (lease (κs .0) (qs .0)) (λ x. x) (λ x. x) (λ x. x) (tts 10) (search own) (search own) (
-      shares-all (claim .R) 64 4 8 9 2 (λ x. x) (λ x. x) (oInt w64 64) (tt, ((tt, tt), tts 8)) (lit< tt, lit< tt) (search own) (search own) (
-      calls (fun C.copy) copy 5 (1 ∷ 2 ∷ []) (record { pos = 7; ty = ref (claim .R) erased; ref = λ x. x }, (vAt 2 (λ x. x), (record { pos = 9; ty = refS (claim .R) erased; ref = λ x. x }, (vLit 0, (vFld 3 (field 1 ∷ []) 448 (λ g. g .count), tt)))))
+      begins 1 (tts 10) ▹ lends mut (claim .R) 1 6 0 1 (named 0) (lease (κs .0) (qs .0)) (λ x. x) (search own) ▸ slices mut (claim .R) 6 7 1 (λ x. x) (count 1 (λ x. x)) (search own) ▸
+      begins 2 (tt, ((tt, tt), tts 8)) ▹ lends-all imm (claim .R) 64 4 8 2 (λ x. x) (lit< tt, lit< tt) (search own) ▸ slices imm (claim .R) 8 9 2 (λ x. x) (oInt w64 64) (search own) ▸
+      calls (fun C.copy) copy 5 (1 ∷ 2 ∷ []) (record { pos = 7; ty = ref mut (claim .R) erased; ref = λ x. x }, (vAt 2 (λ x. x), (record { pos = 9; ty = ref imm (claim .R) erased; ref = λ x. x }, (vLit 0, (vFld 3 (field 1 ∷ []) 448 (λ g. g .count), tt)))))
       (search own, search own, refl, (search own, (search own, search own, refl, (search own, (search own, tt))))) (search own) ▸
-      backs (claim .R) 7 1 0 1 (named 0) (lease (κs .0) (qs .0)) (λ x. x) (λ x. x) (search own) ▹
+      ends 1 refl (backs (claim .R) 7 1 0 1 (named 0) (lease (κs .0) (qs .0)) (λ x. x) (λ x. x) (search own)) ▹
       clears (9 ∷ []) (RC.seen-gone w 2, tt) (
-      unshares-all (claim .R) 64 4 2 (λ x. x) (search own) ▹
+      ends 2 refl (unshares-all (claim .R) 64 4 2 (λ x. x) (search own)) ▹
       sets 0 sUnit oUnit (search own) ▸
       clears (2 ∷ 3 ∷ 4 ∷ 5 ∷ []) (used w num, (RC.goal-gone w, (RC.claims-gone w 64, (used w sUnit, tt)))) (
-      returns tt))))
+      returns tt))
 
   met : Asks! C.store 2 code.function w code.env body
   unfolding body

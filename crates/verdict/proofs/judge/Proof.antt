@@ -5,7 +5,7 @@ use mathlib.Core.List.{[], _∷_, List, map, map-id}
 use Prim.Native.Nat.{ℕ}
 use lib.Dec.{lit<}
 use lib.ListN.{length}
-use mir.Syntax.{tyBool, w8, w64, field, named, erased}
+use mir.Syntax.{tyBool, w8, w64, field, named, erased, mut, imm}
 use mir.Val.{vbool, vint}
 use contract.Running.{tablesOf}
 use denote.Array.{Array}
@@ -22,7 +22,7 @@ use borrow.Rule.Slice.Shared.{lenV}
 use borrow.Table.Row.{lease, sBool, sUnit}
 use Rattle.room.proofs as R
 use Rattle.room.proofs.Says.{fun, Knows, knows}
-use Rattle.room.proofs.Walk.{W, used, Body!, Asks!, proved, same-len, tts, ref, refS, _▸_, _▹_, sets, takes, clears, returns, joins, conds, skips, lends, calls, backs, shares-all, unshares-all}
+use Rattle.room.proofs.Walk.{W, used, Body!, Asks!, proved, same-len, tts, ref, _▸_, _▹_, sets, takes, clears, returns, joins, conds, skips, begins, lends, slices, count, calls, ends, backs, lends-all, unshares-all}
 use Rattle.room.proofs.Claims as RC
 use Rattle.room.proofs.Claims.{claim, num, i64}
 use Rattle.derivation.proofs as D
@@ -77,27 +77,27 @@ module _ (w : World) (judge-steps : Knows (fun DC.judge-steps) w code.env) (blan
       takes OT.the-type OT′.the-laws (Array bytes 256) refl C.columnV (column-laws .lawful) (column-laws .makes) (λ o. o .kinds) kinds-is 3 32 3 4 (λ o. o) (search rules) ▸
       takes OT.the-type OT′.the-laws (Array bytes 256) refl C.columnV (column-laws .lawful) (column-laws .makes) (λ o. o .firsts) firsts-is 4 288 3 5 (λ o. o) (search rules) ▸
       takes OT.the-type OT′.the-laws (Array bytes 256) refl C.columnV (column-laws .lawful) (column-laws .makes) (λ o. o .seconds) seconds-is 5 544 3 6 (λ o. o) (search rules) ▸
-      lends (claim .R) 1 9 10 0 2 (named 0) (lease (κs .0) (qs .0)) (λ x. x) (λ x. x) (λ x. x) (tts 20) (search rules) (search rules) (
-      shares-all bytes 256 4 11 12 3 (λ x. x) (λ x. x) (oInt w64 256) (tt, ((tt, tt), tts 18)) (lit< tt, lit< tt) (search rules) (search rules) (
-      shares-all bytes 256 5 13 14 4 (λ x. x) (λ x. x) (oInt w64 256) (tt, ((tt, tt), tts 18)) (lit< tt, lit< tt) (search rules) (search rules) (
-      shares-all bytes 256 6 15 16 5 (λ x. x) (λ x. x) (oInt w64 256) (tt, ((tt, tt), tts 18)) (lit< tt, lit< tt) (search rules) (search rules) (
+      begins 2 (tts 20) ▹ lends mut (claim .R) 1 9 0 2 (named 0) (lease (κs .0) (qs .0)) (λ x. x) (search rules) ▸ slices mut (claim .R) 9 10 2 (λ x. x) (count 1 (λ x. x)) (search rules) ▸
+      begins 3 (tt, ((tt, tt), tts 18)) ▹ lends-all imm bytes 256 4 11 3 (λ x. x) (lit< tt, lit< tt) (search rules) ▸ slices imm bytes 11 12 3 (λ x. x) (oInt w64 256) (search rules) ▸
+      begins 4 (tt, ((tt, tt), tts 18)) ▹ lends-all imm bytes 256 5 13 4 (λ x. x) (lit< tt, lit< tt) (search rules) ▸ slices imm bytes 13 14 4 (λ x. x) (oInt w64 256) (search rules) ▸
+      begins 5 (tt, ((tt, tt), tts 18)) ▹ lends-all imm bytes 256 6 15 5 (λ x. x) (lit< tt, lit< tt) (search rules) ▸ slices imm bytes 15 16 5 (λ x. x) (oInt w64 256) (search rules) ▸
       calls (fun DC.judge-steps) judge-steps 0 (2 ∷ 1 ∷ 3 ∷ 4 ∷ 5 ∷ [])
-      (record { pos = 10; ty = ref (claim .R) erased; ref = λ x. x }, (record { pos = 2; ty = τ 1; ref = λ x. x }, (record { pos = 12; ty = refS bytes erased; ref = λ x. x }, (record { pos = 14; ty = refS bytes erased; ref = λ x. x }, (record { pos = 16; ty = refS bytes erased; ref = λ x. x }, (vFld 3 (field 2 ∷ []) 24 (λ o. o .entries), (record { pos = 3; st = field 6 ∷ []; d = 800; at = λ o. o .state }, tt)))))))
+      (record { pos = 10; ty = ref mut (claim .R) erased; ref = λ x. x }, (record { pos = 2; ty = τ 1; ref = λ x. x }, (record { pos = 12; ty = ref imm bytes erased; ref = λ x. x }, (record { pos = 14; ty = ref imm bytes erased; ref = λ x. x }, (record { pos = 16; ty = ref imm bytes erased; ref = λ x. x }, (vFld 3 (field 2 ∷ []) 24 (λ o. o .entries), (record { pos = 3; st = field 6 ∷ []; d = 800; at = λ o. o .state }, tt)))))))
       (search rules, search rules, refl, (search rules, search rules, refl, (search rules, search rules, refl, (search rules, search rules, refl, (search rules, search rules, refl, (search rules, (search rules, tt))))))) (search rules) ▸
-      backs (claim .R) 10 1 0 2 (named 0) (lease (κs .0) (qs .0)) (λ x. x) (λ x. x) (search rules) ▹
+      ends 2 refl (backs (claim .R) 10 1 0 2 (named 0) (lease (κs .0) (qs .0)) (λ x. x) (λ x. x) (search rules)) ▹
       clears (12 ∷ 14 ∷ 16 ∷ []) (C.lent-gone w 3, (C.lent-gone w 4, (C.lent-gone w 5, tt))) (
-      unshares-all bytes 256 4 3 (λ x. x) (search rules) ▹
-      unshares-all bytes 256 5 4 (λ x. x) (search rules) ▹
-      unshares-all bytes 256 6 5 (λ x. x) (search rules) ▹
+      ends 3 refl (unshares-all bytes 256 4 3 (λ x. x) (search rules)) ▹
+      ends 4 refl (unshares-all bytes 256 5 4 (λ x. x) (search rules)) ▹
+      ends 5 refl (unshares-all bytes 256 6 5 (λ x. x) (search rules)) ▹
       clears (3 ∷ 4 ∷ 5 ∷ 6 ∷ []) (C.opening-gone w, (C.column-gone w, (C.column-gone w, (C.column-gone w, tt)))) (
       clears (7 ∷ 8 ∷ []) (used w num, (used w sBool, tt)) (
-      returns tt)))))))) (skips tt)) (
-      lends (claim .R) 1 18 19 0 2 (named 0) (lease (κs .0) (qs .0)) (λ x. x) (λ x. x) (λ x. x) (tts 20) (search rules) (search rules) (
-      calls (fun RC.blank-all) blank-all 17 (2 ∷ []) (record { pos = 19; ty = ref (claim .R) erased; ref = λ x. x }, tt) (search rules) (search rules) ▸
-      backs (claim .R) 19 1 0 2 (named 0) (lease (κs .0) (qs .0)) (λ x. x) (λ x. x) (search rules) ▹
+      returns tt)))) (skips tt)) (
+      begins 2 (tts 20) ▹ lends mut (claim .R) 1 18 0 2 (named 0) (lease (κs .0) (qs .0)) (λ x. x) (search rules) ▸ slices mut (claim .R) 18 19 2 (λ x. x) (count 1 (λ x. x)) (search rules) ▸
+      calls (fun RC.blank-all) blank-all 17 (2 ∷ []) (record { pos = 19; ty = ref mut (claim .R) erased; ref = λ x. x }, tt) (search rules) (search rules) ▸
+      ends 2 refl (backs (claim .R) 19 1 0 2 (named 0) (lease (κs .0) (qs .0)) (λ x. x) (λ x. x) (search rules)) ▹
       takes OT.the-type OT′.the-laws (En.row AT.the-type) refl C.answerV (EL.lawful AT.the-type AT′.the-laws (w .𝓤) (w .H) (w .𝓖 .A) (W w) tt) (EL.makes AT.the-type AT′.the-plain (w .𝓤) (w .H) (w .𝓖 .A)) (λ o. o .answer) answer-is 1 8 3 0 (λ o. o) (search rules) ▸
       clears (3 ∷ 7 ∷ 8 ∷ 17 ∷ []) (C.opening-gone w, (used w num, (used w sBool, (used w sUnit, tt)))) (
-      returns tt)))
+      returns tt))
 
   met : Asks! C.judge 4 code.function w code.env body
   unfolding body

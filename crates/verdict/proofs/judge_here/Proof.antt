@@ -4,13 +4,13 @@ use mathlib.Core.List.{[], _∷_}
 use Prim.Native.Nat.{ℕ}
 use lib.Dec.{lit<}
 use lib.ListN.{length-replicate}
-use mir.Syntax.{w64, erased}
+use mir.Syntax.{w64, erased, mut}
 use mir.Val.{vint}
 use contract.Running.{tablesOf}
 use borrow.Fn.World.{World}
 use borrow.Rule.Scalar.{oBig}
 use Rattle.room.proofs.Says.{fun, Knows, knows}
-use Rattle.room.proofs.Walk.{Body!, Asks!, proved, tts, ref, _▸_, _▹_, clears, returns, repeats, lends-all, calls, backs-all}
+use Rattle.room.proofs.Walk.{Body!, Asks!, proved, tts, ref, _▸_, _▹_, clears, returns, repeats, begins, lends-all, slices, calls, ends, backs-all}
 use Rattle.room.proofs.Claims.{claim}
 use Rattle.room.proofs.Covered as F
 use Rattle.derivation.proofs.Tables.{τ}
@@ -29,11 +29,11 @@ module _ (w : World) (judge : Knows (fun C.judge) w code.env) (blank-claim : Kno
   body κs qs bs =
       calls F.blank-claim blank-claim 2 [] tt (search own) (search own) ▸
       repeats T.the-type T′.the-laws T′.the-copy T′.the-plain 1088 2 3 (λ x. x) (λ x. x) (search own) ▸
-      lends-all (claim .R) 1088 3 4 5 1 (λ x. x) (λ x. x) (oBig w64 1088) (tts 6) (lit< tt, lit< tt) (search own) (search own) (
-      calls (fun C.judge) judge 0 (1 ∷ 0 ∷ []) (record { pos = 5; ty = ref (claim .R) erased; ref = λ x. x }, (record { pos = 1; ty = τ 0; ref = λ x. x }, tt)) (search own) (search own) ▸
-      backs-all (claim .R) 1088 5 3 1 (λ x. x) (λ x. x) (search own) ▹
+      begins 1 (tts 6) ▹ lends-all mut (claim .R) 1088 3 4 1 (λ x. x) (lit< tt, lit< tt) (search own) ▸ slices mut (claim .R) 4 5 1 (λ x. x) (oBig w64 1088) (search own) ▸
+      calls (fun C.judge) judge 0 (1 ∷ 0 ∷ []) (record { pos = 5; ty = ref mut (claim .R) erased; ref = λ x. x }, (record { pos = 1; ty = τ 0; ref = λ x. x }, tt)) (search own) (search own) ▸
+      ends 1 refl (backs-all (claim .R) 1088 5 3 1 (λ x. x) (λ x. x) (search own)) ▹
       clears (2 ∷ 3 ∷ []) (search own) (
-      returns tt))
+      returns tt)
 
   met : Asks! C.judge-here 1 code.function w code.env body
   unfolding body
