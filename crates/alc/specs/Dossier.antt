@@ -3,10 +3,10 @@
 use Prim.Native.Nat.{ℕ}
 use Prim.Native.String.{String}
 use mathlib.Core.Bool.{cond}
-use mathlib.Core.List.{List, [], _∷_, map}
+use mathlib.Core.List.{List, [], _∷_, _++_, map}
 use lib.Dec.{eqb}
 use lib.ListN.{getD}
-use Rattle.lines.specs.Text.{fit}
+use Rattle.lines.specs.Text.{onLeft, fit}
 use Rattle.lines.specs.declared.Line.{Line}
 use Rattle.lines.specs.declared.Item.{Item}
 use Rattle.lines.specs.declared.Item.the-variants.{Says, Wrong}
@@ -26,59 +26,77 @@ pub data Said : Type 0 where
   fact : Fact → Said
   unread : Said
 
--- a claim on its side: 1 is `left`, 2 is `right`
-abbrev sided : ℕ → Claim → Sided
-sided s c = cond (eqb s 1) (left c) (right c)
+-- a claim on its side
+abbrev pub sided : ℕ → Claim → Sided
+sided s c = cond (eqb s onLeft) (left c) (right c)
 
--- a row of the table below: a word, and what a line of that word says
-pub record Saying : Type 0 where
+-- a row of the tables below: a word, and what it says
+pub record Saying (A : Type 0) : Type 0 where
   pub word : String
-  pub said : Said
+  pub said : A
 
 -- the word says this
-abbrev says : String → Said → Saying
-says w s = record { word = w; said = s }
+abbrev says : {A : Type 0} → String → A → Saying A
+says w a = record { word = w; said = a }
+
+-- 1. what the words of the concept table say with the numbers x and y
+abbrev pub entries : ℕ → ℕ → List (Saying Entry)
+entries x y =
+    says "top" (entryOf Kind.top 0 0)
+    ∷ says "bot" (entryOf Kind.bot 0 0)
+    ∷ says "atom" (entryOf Kind.atom x 0)
+    ∷ says "not" (entryOf Kind.not x 0)
+    ∷ says "and" (entryOf Kind.and x y)
+    ∷ says "or" (entryOf Kind.or x y)
+    ∷ says "some" (entryOf Kind.some x y)
+    ∷ says "all" (entryOf Kind.all x y)
+    ∷ []
+
+-- 2. the words of the claims
+abbrev pub claims : ℕ → ℕ → ℕ → List (Saying Claim)
+claims x y z = says "is" (is x y) ∷ says "sub" (sub x y) ∷ says "link" (link x y z) ∷ []
+
+-- 4. the words of the steps
+abbrev pub steps : ℕ → ℕ → ℕ → List (Saying Step)
+steps x y z =
+    says "id" (Rules.id x y)
+    ∷ says "id-sub" (Rules.id-sub x y)
+    ∷ says "id-link" (Rules.id-link x y z)
+    ∷ says "bot-l" (Rules.bot-l x y)
+    ∷ says "top-r" (Rules.top-r x y)
+    ∷ says "top-l" (Rules.top-l x y)
+    ∷ says "bot-r" (Rules.bot-r x y)
+    ∷ says "not-l" (Rules.not-l x y)
+    ∷ says "not-r" (Rules.not-r x y)
+    ∷ says "and-l" (Rules.and-l x y)
+    ∷ says "and-r" (Rules.and-r x y)
+    ∷ says "or-l" (Rules.or-l x y)
+    ∷ says "or-r" (Rules.or-r x y)
+    ∷ says "sub-l" (Rules.sub-l x y z)
+    ∷ says "sub-r" (Rules.sub-r x y z)
+    ∷ says "some-l" (Rules.some-l x y z)
+    ∷ says "some-r" (Rules.some-r x y z)
+    ∷ says "all-l" (Rules.all-l x y z)
+    ∷ says "all-r" (Rules.all-r x y z)
+    ∷ []
+
+-- 4. the words of a model behind its size
+abbrev pub facts : ℕ → ℕ → ℕ → List (Saying Fact)
+facts x y z = says "name" (places x y) ∷ says "has" (has x y) ∷ says "edge" (edge x y z) ∷ []
+
+-- the same rows, as what a line says
+abbrev lines : {A : Type 0} → (A → Said) → List (Saying A) → List (Saying Said)
+lines f rs = map (λ r. says (r .word) (f (r .said))) rs
 
 -- what each word says with the side s and the numbers x, y, z, in the order of the words of the reading part (`words-as-said` in Theorems)
-abbrev pub lexicon : ℕ → ℕ → ℕ → ℕ → List Saying
+abbrev pub lexicon : ℕ → ℕ → ℕ → ℕ → List (Saying Said)
 lexicon s x y z =
-    says "top" (concept (entryOf Kind.top 0 0))
-    ∷ says "bot" (concept (entryOf Kind.bot 0 0))
-    ∷ says "atom" (concept (entryOf Kind.atom x 0))
-    ∷ says "not" (concept (entryOf Kind.not x 0))
-    ∷ says "and" (concept (entryOf Kind.and x y))
-    ∷ says "or" (concept (entryOf Kind.or x y))
-    ∷ says "some" (concept (entryOf Kind.some x y))
-    ∷ says "all" (concept (entryOf Kind.all x y))
-    ∷ says "is" (claim (sided s (is x y)))
-    ∷ says "sub" (claim (sided s (sub x y)))
-    ∷ says "link" (claim (sided s (link x y z)))
-    ∷ says "proof" proof
-    ∷ says "model" model
-    ∷ says "id" (step (Rules.id x y))
-    ∷ says "id-sub" (step (Rules.id-sub x y))
-    ∷ says "id-link" (step (Rules.id-link x y z))
-    ∷ says "bot-l" (step (Rules.bot-l x y))
-    ∷ says "top-r" (step (Rules.top-r x y))
-    ∷ says "top-l" (step (Rules.top-l x y))
-    ∷ says "bot-r" (step (Rules.bot-r x y))
-    ∷ says "not-l" (step (Rules.not-l x y))
-    ∷ says "not-r" (step (Rules.not-r x y))
-    ∷ says "and-l" (step (Rules.and-l x y))
-    ∷ says "and-r" (step (Rules.and-r x y))
-    ∷ says "or-l" (step (Rules.or-l x y))
-    ∷ says "or-r" (step (Rules.or-r x y))
-    ∷ says "sub-l" (step (Rules.sub-l x y z))
-    ∷ says "sub-r" (step (Rules.sub-r x y z))
-    ∷ says "some-l" (step (Rules.some-l x y z))
-    ∷ says "some-r" (step (Rules.some-r x y z))
-    ∷ says "all-l" (step (Rules.all-l x y z))
-    ∷ says "all-r" (step (Rules.all-r x y z))
-    ∷ says "size" (size x)
-    ∷ says "name" (fact (places x y))
-    ∷ says "has" (fact (has x y))
-    ∷ says "edge" (fact (edge x y z))
-    ∷ []
+    lines concept (entries x y)
+    ++ lines (λ c. claim (sided s c)) (claims x y z)
+    ++ (says "proof" proof ∷ says "model" model ∷ [])
+    ++ lines step (steps x y z)
+    ++ (says "size" (size x) ∷ [])
+    ++ lines fact (facts x y z)
 
 -- the same without the words
 abbrev pub sayings : ℕ → ℕ → ℕ → ℕ → List Said

@@ -5,7 +5,8 @@ use mathlib.Core.Bool.{cond}
 use mathlib.Core.List.{List, [], _∷_, _++_, map}
 use mathlib.Core.Path.{_≡_}
 use lib.Dec.{eqb}
-use lib.ListN.{take, getD}
+use lib.ListN.{length, take, getD}
+use Rattle.lines.specs.Text.{onLeft, onRight}
 use Rattle.alc.specs.Table.{Kind, Table, entryOf}
 use Rattle.alc.specs.Claims.{Claim, is, sub, link, Sided, left, right}
 use Rattle.alc.specs.declared.Claim.{Claim as Record}
@@ -14,19 +15,29 @@ use Rattle.alc.specs.declared.Goal.{Goal as Records}
 use Rattle.alc.specs.declared.Answer.{Answer}
 use Rattle.alc.specs.declared.Answer.the-variants.{Proved, Refuted, Refused}
 
--- the record of a claim on side 1 (left) or 2 (right): kinds count from 1, and what a claim does not have is 0
+-- claim kinds count from 1
+abbrev pub isKind : ℕ
+isKind = 1
+
+abbrev pub subKind : ℕ
+subKind = 2
+
+abbrev pub linkKind : ℕ
+linkKind = 3
+
+-- the record of a claim on a side: what a claim does not have is 0
 abbrev pub recordBy : ℕ → Claim → Record
 recordBy s (is a i) =
-    record { kind = 1; side = s; role = record { 0 = 0 }; a = record { 0 = a }; b = record { 0 = 0 }; i = record { 0 = i }; j = record { 0 = 0 } }
+    record { kind = isKind; side = s; role = record { 0 = 0 }; a = record { 0 = a }; b = record { 0 = 0 }; i = record { 0 = i }; j = record { 0 = 0 } }
 recordBy s (sub i j) =
-    record { kind = 2; side = s; role = record { 0 = 0 }; a = record { 0 = 0 }; b = record { 0 = 0 }; i = record { 0 = i }; j = record { 0 = j } }
+    record { kind = subKind; side = s; role = record { 0 = 0 }; a = record { 0 = 0 }; b = record { 0 = 0 }; i = record { 0 = i }; j = record { 0 = j } }
 recordBy s (link r a b) =
-    record { kind = 3; side = s; role = record { 0 = r }; a = record { 0 = a }; b = record { 0 = b }; i = record { 0 = 0 }; j = record { 0 = 0 } }
+    record { kind = linkKind; side = s; role = record { 0 = r }; a = record { 0 = a }; b = record { 0 = b }; i = record { 0 = 0 }; j = record { 0 = 0 } }
 
--- the record of a claim on its side: 1 is left, 2 is right
+-- the record of a claim on its side
 abbrev pub recordOf : Sided → Record
-recordOf (left c) = recordBy 1 c
-recordOf (right c) = recordBy 2 c
+recordOf (left c) = recordBy onLeft c
+recordOf (right c) = recordBy onRight c
 
 -- all numbers 0
 abbrev pub blank : Record
@@ -34,11 +45,11 @@ blank = record { kind = 0; side = 0; role = record { 0 = 0 }; a = record { 0 = 0
 
 -- the claim of a record
 abbrev pub claimOf : Record → Claim
-claimOf c = cond (eqb (c .kind) 1) (is (c .a .0) (c .i .0)) (cond (eqb (c .kind) 2) (sub (c .i .0) (c .j .0)) (link (c .role .0) (c .a .0) (c .b .0)))
+claimOf c = cond (eqb (c .kind) isKind) (is (c .a .0) (c .i .0)) (cond (eqb (c .kind) subKind) (sub (c .i .0) (c .j .0)) (link (c .role .0) (c .a .0) (c .b .0)))
 
 -- the same on its side
 abbrev pub sidedOf : Record → Sided
-sidedOf c = cond (eqb (c .side) 1) (left (claimOf c)) (right (claimOf c))
+sidedOf c = cond (eqb (c .side) onLeft) (left (claimOf c)) (right (claimOf c))
 
 -- the records of a goal
 abbrev pub records : Records → List Record
@@ -52,9 +63,17 @@ claimsIn g = map sidedOf (records g)
 abbrev pub Shows : Records → List Sided → Type 0
 Shows g cs = records g ≡ map recordOf cs
 
--- a kind's number is its word's place among the words of the table: 0 `top` to 7 `all`
+-- the kinds of lines: a kind's number is its index here, which is its word's number
+abbrev pub kinds : List Kind
+kinds = Kind.top ∷ Kind.bot ∷ Kind.atom ∷ Kind.not ∷ Kind.and ∷ Kind.or ∷ Kind.some ∷ Kind.all ∷ []
+
+-- how many kinds there are
+abbrev pub kindCount : ℕ
+kindCount = length kinds
+
+-- the kind of a number
 abbrev pub kindAt : ℕ → Kind
-kindAt k = getD (Kind.top ∷ Kind.bot ∷ Kind.atom ∷ Kind.not ∷ Kind.and ∷ Kind.or ∷ Kind.some ∷ Kind.all ∷ []) k Kind.top
+kindAt k = getD kinds k Kind.top
 
 -- the first n lines of the table that three columns hold: the kinds, the first numbers and the second numbers
 unfoldable pub tableOf : List ℕ → List ℕ → List ℕ → ℕ → Table

@@ -6,7 +6,7 @@ use mathlib.Core.Bool.{Bool, false, not, cond}
 use mathlib.Core.List.{List, [], _∷_, _++_}
 use lib.Dec.{ltb, leb}
 use lib.ListN.{length}
-use Rattle.lines.specs.Text.{linesOf}
+use Rattle.lines.specs.Text.{atTable, atClaims, atSteps, atSize, atFacts, linesOf}
 use Rattle.lines.specs.declared.Item.{Item}
 use Rattle.alc.specs.Lists.{every, isEmpty, firstAt}
 use Rattle.alc.specs.Rows.{Row, row, refusal}
@@ -48,11 +48,11 @@ pub data Part : Type 0 where
 
 -- the same as a place of the reading part
 abbrev pub place : Part → ℕ
-place table = 0
-place claims = 1
-place steps = 2
-place start = 3
-place facts = 4
+place table = atTable
+place claims = atClaims
+place steps = atSteps
+place start = atSize
+place facts = atFacts
 
 -- what has been read: the table, the claims, how many steps and the goals that they leave open, the model's size and what it says
 pub record State : Type 0 where

@@ -1,24 +1,25 @@
 -- A line of the text as a claim: what is said is the claim that is made, and its rows are those that are tested. Assumes nothing.
 use Prim.Native.Nat.{ℕ, _≤_, _<_, _%_}
-use native.Mathlib.Omega.{arith}
-use native.Mathlib.Decide.{ℕ-discrete}
 use mathlib.Core.Bool.{Bool, true, false, cond}
-use mathlib.Core.List.{List}
+use mathlib.Core.List.{List, map}
 use mathlib.Core.Path.{_≡_, refl, sym, ap, _∙_}
 use lib.Dec.{eqb, ltb}
-use lib.ListN.{length, getD}
+use lib.ListN.{length, getD, drop}
+use Rattle.lines.specs.Text.{onLeft, onRight}
+use Rattle.lines.specs.Walk.{claimsFrom, sectionsFrom}
 use Rattle.lines.specs.declared.Line.{Line}
 use Rattle.alc.specs.Lists.{every}
 use Rattle.alc.specs.Rows.{refusal}
 use Rattle.alc.specs.Ranges.{inRange}
 use Rattle.alc.specs.Table.{Table}
-use Rattle.alc.specs.Claims.{Claim, is, sub, link, Sided, left, right}
-use Rattle.alc.specs.Dossier.{claim, unread, sayings, saying}
+use Rattle.alc.specs.Claims.{Claim, is, Sided, left, right}
+use Rattle.alc.specs.Dossier.{sided, claim, unread, claims, sayings, saying}
 use Rattle.alc.specs.Shown.{recordBy, recordOf}
 use Rattle.alc.specs.Verdict.{rows}
 use Rattle.alc.specs.declared.Claim.{Claim as Record}
 use Rattle.heading.specs.Fields.{saidFields}
-use Rattle.heading.specs.Parts.{claimIn, sidedIn, claimRows, inClaims}
+use Rattle.heading.specs.Parts.{claimBy, claimIn, sidedIn, claimRows, inClaims}
+use Rattle.heading.proofs.Said.{said-part}
 use Rattle.heading.proofs.Small.{Small}
 use Rattle.heading.proofs.TableLaws.{byte}
 
@@ -37,40 +38,26 @@ module _ (e n : ℕ) (l : Line) where
   claim-0 h g = rw (h, g)
 
 -- the record of a claim on its side
-pub sided-record : (b : Bool) (c : Claim) → recordBy (cond b 1 2) c ≡ recordOf (cond b (left c) (right c))
+pub sided-record : (b : Bool) (c : Claim) → recordBy (cond b onLeft onRight) c ≡ recordOf (cond b (left c) (right c))
 sided-record true c = refl
 sided-record false c = refl
 
--- the claim, by its word
-module _ (l : Line) where
-  pub claim-is : l .word ≡ 8 → claimIn l ≡ is (l .n0 % 256) (l .n1 % 256)
-  claim-is h = rw h
-
-  pub claim-sub : l .word ≡ 9 → claimIn l ≡ sub (l .n0 % 256) (l .n1 % 256)
-  claim-sub h = rw h
-
-  pub claim-link : l .word ≡ 10 → claimIn l ≡ link (l .n0 % 256) (l .n1 % 256) (l .n2 % 256)
-  claim-link h = rw h
+-- the claim, by its word's number
+pub claim-at : (l : Line) (w : ℕ) → l .word ≡ w → claimIn l ≡ claimBy w (l .n0 % 256) (l .n1 % 256) (l .n2 % 256)
+claim-at l w e = ap (λ k. claimBy k (l .n0 % 256) (l .n1 % 256) (l .n2 % 256)) e
 
 -- what is said with the line's own numbers
-abbrev plainClaim : ℕ → ℕ → ℕ → ℕ → Claim
-plainClaim w x y z = cond (eqb w 8) (is x y) (cond (eqb w 9) (sub x y) (link x y z))
-
-said-claim : (s x y z w : ℕ) → 8 ≤ w → w < 11 → getD (sayings s x y z) w unread ≡ claim (cond (eqb s 1) (left (plainClaim w x y z)) (right (plainClaim w x y z)))
-said-claim s x y z w h g = go (ℕ-discrete w 8) (ℕ-discrete w 9)
-  where
-    go : Dec (w ≡ 8) → Dec (w ≡ 9) → getD (sayings s x y z) w unread ≡ claim (cond (eqb s 1) (left (plainClaim w x y z)) (right (plainClaim w x y z)))
-    go (yes e) d = rw e
-    go (no e) (yes d) = rw d
-    go (no e) (no d) = let f : w ≡ 10 = omega arith in rw f
+said-claim : (s x y z w : ℕ) → claimsFrom ≤ w → w < sectionsFrom → getD (sayings s x y z) w unread ≡ claim (sided s (claimBy w x y z))
+said-claim s x y z =
+    said-part (λ c. claim (sided s c)) (sayings s x y z) claimsFrom (map (λ r. r .said) (claims x y z)) (drop sectionsFrom (sayings s x y z)) (is x y) refl
 
 -- the record that is made is that of the claim
-pub made-as : (l : Line) (r : Record) (s : ℕ) (k : Claim) → r ≡ recordBy s k → s ≡ cond (eqb (l .side) 1) 1 2 → claimIn l ≡ k → r ≡ recordOf (sidedIn l)
-made-as l r s k e f g = e ∙ ap (λ t. recordBy t k) f ∙ ap (recordBy (cond (eqb (l .side) 1) 1 2)) (sym g) ∙ sided-record (eqb (l .side) 1) (claimIn l)
+pub made-as : (l : Line) (r : Record) (s : ℕ) (k : Claim) → r ≡ recordBy s k → s ≡ cond (eqb (l .side) onLeft) onLeft onRight → claimIn l ≡ k → r ≡ recordOf (sidedIn l)
+made-as l r s k e f g = e ∙ ap (λ t. recordBy t k) f ∙ ap (recordBy (cond (eqb (l .side) onLeft) onLeft onRight)) (sym g) ∙ sided-record (eqb (l .side) onLeft) (claimIn l)
 
-module _ (l : Line) (h : 8 ≤ l .word) (g : l .word < 11) where
+module _ (l : Line) (h : claimsFrom ≤ l .word) (g : l .word < sectionsFrom) where
   abbrev plain : Sided
-  plain = cond (eqb (l .side) 1) (left (plainClaim (l .word) (l .n0) (l .n1) (l .n2))) (right (plainClaim (l .word) (l .n0) (l .n1) (l .n2)))
+  plain = sided (l .side) (claimBy (l .word) (l .n0) (l .n1) (l .n2))
 
   plain-said : saying l ≡ claim plain
   plain-said = said-claim (l .side) (l .n0) (l .n1) (l .n2) (l .word) h g

@@ -2,23 +2,23 @@
 -- and they are the rows that are tested. Assumes nothing.
 use Prim.Native.Nat.{ℕ, zero, suc, _+_, _≤_, _<_}
 use native.Mathlib.Omega.{arith}
-use mathlib.Core.Bool.{Bool, true, false, not, cond, _&&_, _||_}
+use mathlib.Core.Bool.{Bool, true, false, cond}
 use mathlib.Core.List.{List, [], _∷_, _++_}
 use mathlib.Core.Path.{_≡_, refl, sym, ap, ap₂, subst, _∙_}
-use lib.Dec.{ltb, leb}
+use lib.Dec.{ltb}
 use lib.ListN.{length, drop, length-append}
-use borrow.Author.Tests.{ltb-true, leb-true}
-use Rattle.lines.specs.Text.{words, rowOf, wordCount, stands as allowedAt, linesOf}
-use Rattle.lines.specs.Walk.{readAt}
+use borrow.Author.Tests.{ltb-true}
+use Rattle.lines.specs.Text.{atClaims, words, rowOf, stands as allowedAt, linesOf}
+use Rattle.lines.specs.Walk.{claimsFrom, sectionsFrom, stepsFrom, readAt}
 use Rattle.lines.specs.declared.Line.{Line}
 use Rattle.lines.specs.declared.Next.{Next}
 use Rattle.lines.specs.declared.Next.the-variants.{Found}
 use Rattle.lines.proofs.Told.{Told, told}
+use Rattle.lines.proofs.Words.{spanned}
 use Rattle.reading.proofs.Loop.{Line-found, when-found}
 use Rattle.alc.specs.Lists.{All, every}
 use Rattle.alc.specs.Rows.{refusal}
 use Rattle.alc.specs.Ranges.{inRange}
-use Rattle.alc.specs.Meaning.{everyBelow}
 use Rattle.alc.specs.Table.{Table}
 use Rattle.alc.specs.Claims as Claims
 use Rattle.alc.specs.Claims.{Sided, claimFields}
@@ -27,7 +27,6 @@ use Rattle.alc.specs.Shown.{Shows, records, recordOf}
 use Rattle.alc.specs.declared.Goal.{Goal as Records}
 use Rattle.alc.specs.declared.Claim.{Claim as Record}
 use Rattle.alc.specs.Verdict.{State, rows, after}
-use Rattle.alc.proofs.Logic.{and-left, and-right, every-true}
 use Rattle.goals.proofs.Steps.{map-append}
 use Rattle.heading.specs.Fields.{saidFields}
 use Rattle.heading.specs.Parts.{sidedIn, claimRows, inClaims, inSteps, atStart, Through, none, ClaimsEnd, failed, ClaimsLead, proof, model, refused}
@@ -36,21 +35,9 @@ use Rattle.heading.proofs.Through.{through-next}
 use Rattle.claims.proofs.ClaimLaws.{claim-said, rows-claim}
 
 -- the words that stand in the claims' place: the claims, `proof` and `model`: a test of all words
-among : ℕ → Bool
-among w = not (leb (rowOf w .first) 1 && leb 1 (rowOf w .last)) || (leb 8 w && leb w 12)
-
-all-among : everyBelow wordCount among ≡ true
-unfolding among words rowOf
-all-among = refl
-
-pub stands-among : (l : Line) → Told l → allowedAt 1 l ≡ true → (8 ≤ l .word) × (l .word ≤ 12)
-unfolding among
-stands-among l t a =
-    let e : (leb 8 (l .word) && leb (l .word) 12) ≡ true = go (every-true among wordCount all-among (l .word) (t .known)) in
-    (leb-true 8 (l .word) (and-left _ (leb (l .word) 12) e), leb-true (l .word) 12 (and-right (leb 8 (l .word)) _ e))
-  where
-    go : among (l .word) ≡ true → (leb 8 (l .word) && leb (l .word) 12) ≡ true
-    go e = rw a at e
+pub stands-among : (l : Line) → allowedAt atClaims l ≡ true → (claimsFrom ≤ l .word) × (l .word < stepsFrom)
+unfolding words rowOf
+stands-among l a = spanned atClaims claimsFrom stepsFrom (omega arith) refl (l .word) a
 
 -- the claims read, in the goal g, and the next line at `at`, with n lines read
 pub record Walk (text : List ℕ) (T : Table) (begun : ℕ) (g : Records) (at n : ℕ) : Type 0 where
@@ -70,18 +57,18 @@ module _ (text : List ℕ) (T : Table) (begun : ℕ) where
 
   module _ (g : Records) (at n : ℕ) (v : Walk text T begun g at n) where
     -- the walk stops
-    pub stops : (x : Next) (k : ℕ) → readAt text at 1 ≡ x → ClaimsEnd T (v .cs) x k → ClaimsLead text T begun (v .cs) n at k 0
+    pub stops : (x : Next) (k : ℕ) → readAt text at atClaims ≡ x → ClaimsEnd T (v .cs) x k → ClaimsLead text T begun (v .cs) n at k 0
     stops x k e d = refused (v .so) (subst (λ y. ClaimsEnd T (v .cs) y k) (sym e) d)
 
-    module _ (l : Line) (to : ℕ) (r : readAt text at 1 ≡ Found l to) where
-      f : Line-found text at 1 l to
-      f = when-found text at 1 l to r
+    module _ (l : Line) (to : ℕ) (r : readAt text at atClaims ≡ Found l to) where
+      f : Line-found text at atClaims l to
+      f = when-found text at atClaims l to r
 
       t : Told l
       t = told (drop at text) l (linesOf (drop to text)) (f .lines)
 
-      pub word-low : 8 ≤ l .word
-      word-low = stands-among l t (f .allowed) .0
+      pub word-low : claimsFrom ≤ l .word
+      word-low = stands-among l (f .allowed) .0
 
       -- `proof`, `model`
       turned : (s : Said) (F : State) → saying l ≡ s → refusal (rows (inClaims T (v .cs)) s) ≡ 0 → after (inClaims T (v .cs)) s ≡ F
@@ -89,15 +76,15 @@ module _ (text : List ℕ) (T : Table) (begun : ℕ) where
       turned s F e h q =
           through-next (v .so) l to F r (ap (λ u. refusal (rows (inClaims T (v .cs)) u)) e ∙ h) (ap (after (inClaims T (v .cs))) e ∙ q)
 
-      pub turns : (k : ℕ) → l .word ≡ k + 10 → 1 ≤ k → k ≤ 2 → ClaimsLead text T begun (v .cs) (n + 1) to 0 k
+      pub turns : (k : ℕ) → l .word + 1 ≡ k + sectionsFrom → 1 ≤ k → k ≤ 2 → ClaimsLead text T begun (v .cs) (n + 1) to 0 k
       unfolding rows after
       turns zero e h g = absurd (omega arith)
-      turns (suc zero) e h g = let s : saying l ≡ Said.proof = rw e in proof (turned Said.proof (inSteps T (v .cs) 0 (v .cs ∷ [])) s refl refl)
-      turns (suc (suc zero)) e h g = let s : saying l ≡ Said.model = rw e in model (turned Said.model (atStart T (v .cs)) s refl refl)
+      turns (suc zero) e h g = let w : l .word ≡ sectionsFrom = omega arith in let s : saying l ≡ Said.proof = rw w in proof (turned Said.proof (inSteps T (v .cs) 0 (v .cs ∷ [])) s refl refl)
+      turns (suc (suc zero)) e h g = let w : l .word ≡ suc sectionsFrom = omega arith in let s : saying l ≡ Said.model = rw w in model (turned Said.model (atStart T (v .cs)) s refl refl)
       turns (suc (suc (suc k))) e h g = absurd (omega arith)
 
       -- a claim
-      module _ (w : l .word < 11) where
+      module _ (w : l .word < sectionsFrom) where
         tested : (e : ℕ) → length T ≡ e → refusal (rows (inClaims T (v .cs)) (saying l)) ≡ refusal (claimRows e (g .count) l)
         tested e q = rows-claim l word-low w T (v .cs) ∙ ap₂ (λ a b. refusal (claimRows a b l)) q (sym (v .count))
 

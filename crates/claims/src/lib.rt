@@ -4,17 +4,18 @@ use alc::Concept;
 use alc::Name;
 use alc::Role;
 use heading::Heading;
+use heading::PROVES;
 use heading::ranged;
 use lines::IN_CLAIMS;
-use lines::IS;
+use lines::LEFT;
 use lines::Line;
 use lines::Next;
-use lines::PROOF;
-use lines::SUB;
+use lines::RIGHT;
 ghost use mathlib.Core.Path.{_≡_};
 ghost use Prim.Native.Nat.{_<_, _≤_};
 ghost use lib.ListN.{length};
-ghost use Rattle.lines.specs.Text.{wordCount};
+ghost use Rattle.lines.specs.Text.{onLeft, onRight, wordCount};
+ghost use Rattle.lines.specs.Walk.{claimsFrom, sectionsFrom};
 ghost use mathlib.Core.Bool.{cond};
 ghost use lib.Dec.{eqb};
 ghost use Rattle.alc.specs.Rows.{refusal};
@@ -22,29 +23,32 @@ ghost use Rattle.alc.specs.Table.{Table};
 ghost use Rattle.alc.specs.Shown.{recordOf};
 ghost use Rattle.heading.specs.Parts.{sidedIn, claimRows, ClaimsRead};
 
-// The side of a claim: 1 left, 2 right.
+// What is to be taken off a word that ends the claims, so that `proof` is PROVES and `model` is MODELS.
+const BEFORE: u8 = lines::PROOF - PROVES;
+
+// The side of a claim.
 fn side_of(l: Line) -> u8
-    ensures { λ r. ⌜ r ≡ cond (eqb (l .side) 1) 1 2 ⌝ }
+    ensures { λ r. ⌜ r ≡ cond (eqb (l .side) onLeft) onLeft onRight ⌝ }
 {
-    if l.side == 1 {
-        return 1;
+    if l.side == LEFT {
+        return LEFT;
     }
-    2
+    RIGHT
 }
 
 // The claim that a line of the text is.
 fn made_claim(l: Line) -> Claim
-    requires { ⌜ (8 ≤ l .word) × (l .word < 11) ⌝ }
+    requires { ⌜ (claimsFrom ≤ l .word) × (l .word < sectionsFrom) ⌝ }
     ensures { λ r. ⌜ r ≡ recordOf (sidedIn l) ⌝ }
 {
     let side = side_of(l);
     let x = (l.n0 % 256) as u8;
     let y = (l.n1 % 256) as u8;
     let z = (l.n2 % 256) as u8;
-    if l.word == IS {
+    if l.word == lines::IS {
         return alc::is(side, Name(x), Concept(y));
     }
-    if l.word == SUB {
+    if l.word == lines::SUB {
         return alc::sub(side, Concept(x), Concept(y));
     }
     alc::link(side, Role(x), Name(y), Name(z))
@@ -75,11 +79,10 @@ pub fn read_claims(text: &[u8], start: usize, entries: usize) -> Heading
     loop {
         match reading::read(text, at, IN_CLAIMS) {
             Next::Found(l, next) => {
-                if l.word >= PROOF {
+                if l.word >= lines::PROOF {
                     return Heading {
                         number: 0,
-                        // 1 for `proof`, 2 for `model`
-                        section: l.word - 10,
+                        section: l.word - BEFORE,
                         at: next,
                         lines: n + 1,
                         claims: claims,

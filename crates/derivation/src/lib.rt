@@ -46,12 +46,12 @@ fn step(
     ensures { λ r. ⌜ Stepped (now (text .entry)) (now (kinds .entry)) (now (firsts .entry)) (now (seconds .entry)) entries (now (room .entry)) s (now (room .exit)) r ⌝ }
 {
     let a = steps::act_at(text, kinds, firsts, seconds, entries, s);
-    if a.kind == 1 {
+    if a.kind == states::STORES {
         let next = states::after(s, a);
         shelf::store(room, a.base, states::aside(next, a));
         return next;
     }
-    if a.kind == 2 {
+    if a.kind == states::FETCHES {
         let goal = shelf::fetch(room, a.base, a.count as usize);
         return states::behind(s, a, goal);
     }

@@ -1,4 +1,5 @@
 // The elements of each line of the concept table in a model, as sets of 32 bits, worked out from those of the lines above it.
+use alc::kinds;
 use sets::full;
 use sets::inside;
 use sets::marked;
@@ -61,8 +62,7 @@ fn all_in(size: u8, edges: &[u32; 512], r: alc::Role, s: u32) -> u32
     outside(size, reaching(size, edges, r, outside(size, s)))
 }
 
-// The elements of one line of the table, from those of the lines above it. Kinds are numbered from 0: `top`, `bot`, `atom`,
-// `not`, `and`, `or`, `some`, `all`.
+// The elements of one line of the table, from those of the lines above it.
 fn extent(
     kind: u8,
     x: u8,
@@ -77,13 +77,13 @@ fn extent(
     ensures { λ r. ⌜ ((d : ℕ) → d < size → bit r d ≡ extentOf (worldOf size (now (atoms .entry)) (now (edges .entry))) (kindAt kind) x y (λ p. bit (getD (now (ext .entry)) p 0)) d) ⌝ }
 {
     match kind {
-        1 => 0,
-        2 => atom_of(atoms, alc::Atom(x)),
-        3 => outside(size, set_of(ext, alc::Concept(x))),
-        4 => set_of(ext, alc::Concept(x)) & set_of(ext, alc::Concept(y)),
-        5 => set_of(ext, alc::Concept(x)) | set_of(ext, alc::Concept(y)),
-        6 => some_in(size, edges, alc::Role(x), set_of(ext, alc::Concept(y))),
-        7 => all_in(size, edges, alc::Role(x), set_of(ext, alc::Concept(y))),
+        kinds::BOT => 0,
+        kinds::ATOM => atom_of(atoms, alc::Atom(x)),
+        kinds::NOT => outside(size, set_of(ext, alc::Concept(x))),
+        kinds::AND => set_of(ext, alc::Concept(x)) & set_of(ext, alc::Concept(y)),
+        kinds::OR => set_of(ext, alc::Concept(x)) | set_of(ext, alc::Concept(y)),
+        kinds::SOME => some_in(size, edges, alc::Role(x), set_of(ext, alc::Concept(y))),
+        kinds::ALL => all_in(size, edges, alc::Role(x), set_of(ext, alc::Concept(y))),
         _ => full(size),
     }
 }

@@ -13,7 +13,7 @@ use borrow.Author.Tests.{lt-ltb, le-ltb}
 use mir.Val.{Val}
 use denote.Laws.{Is}
 use denote.Struct.Declared.{row}
-use Rattle.lines.specs.Text.{linesOf}
+use Rattle.lines.specs.Text.{atSize, linesOf}
 use Rattle.lines.specs.declared.Line.{Line}
 use Rattle.lines.proofs.Told.{Told}
 use Rattle.reading.proofs.Loop.{Line-found, Line-bad}
@@ -99,16 +99,16 @@ module _ (n : ℕ) (T : Table) (k : ℕ) (fs : List Fact) (ps ats es : List ℕ)
 
 -- the size line
 module _ (text : List ℕ) (at n : ℕ) (T : Table) (cs : List Sided) where
-  pub begins-bad : Line-bad text at 3 → refused 2 (n + 1) ≡ judge n (atStart T cs) (linesOf (drop at text))
-  begins-bad b = ap (refused 2) (add-one n) ∙ sym (judge-bad text at 3 n (atStart T cs) refl b)
+  pub begins-bad : Line-bad text at atSize → refused 2 (n + 1) ≡ judge n (atStart T cs) (linesOf (drop at text))
+  begins-bad b = ap (refused 2) (add-one n) ∙ sym (judge-bad text at atSize n (atStart T cs) refl b)
 
   pub begins-end : linesOf (drop at text) ≡ [] → refused 12 (n + 1) ≡ judge n (atStart T cs) (linesOf (drop at text))
   unfolding ending
   begins-end z = ap (refused 12) (add-one n) ∙ sym (judge-end n (atStart T cs) _ z)
 
-module _ (text : List ℕ) (at : ℕ) (l : Line) (to : ℕ) (f : Line-found text at 3 l to) where
+module _ (text : List ℕ) (at : ℕ) (l : Line) (to : ℕ) (f : Line-found text at atSize l to) where
   t : Told l
-  t = found-told text at 3 l to f
+  t = found-told text at atSize l to f
 
   w : saying l ≡ size (l .n0)
   w = size-said l (size-word l (f .allowed))
@@ -121,7 +121,7 @@ module _ (text : List ℕ) (at : ℕ) (l : Line) (to : ℕ) (f : Line-found text
         ap (λ s. refusal (rows (atStart T cs) s)) w ∙ rw g
 
     pub begins-ranges : every (inRange m 0) (saidFields (saying l)) ≡ false → refused 3 (n + 1) ≡ judge n (atStart T cs) (linesOf (drop at text))
-    begins-ranges h = ap (refused 3) (add-one n) ∙ sym (judge-refused text at 3 n (atStart T cs) refl l to f 3 (ranges-here false h) (λ (z : _≡_ {A = ℕ} 3 0). omega arith))
+    begins-ranges h = ap (refused 3) (add-one n) ∙ sym (judge-refused text at atSize n (atStart T cs) refl l to f 3 (ranges-here false h) (λ (z : _≡_ {A = ℕ} 3 0). omega arith))
 
   module _ (m : ℕ) (le : m ≤ 256) (h : every (inRange m 0) (saidFields (saying l)) ≡ true) where
     own : l .n0 % 256 ≡ l .n0
@@ -136,6 +136,6 @@ module _ (text : List ℕ) (at : ℕ) (l : Line) (to : ℕ) (f : Line-found text
         → judge (n + 1) (inFacts T cs (l .n0 % 256) []) (linesOf (drop to text)) ≡ judge n (atStart T cs) (linesOf (drop at text))
     unfolding after
     begins n T cs long =
-        sym (judge-next text at 3 n (atStart T cs) refl l to f (ranges-here n T cs m long true h)
+        sym (judge-next text at atSize n (atStart T cs) refl l to f (ranges-here n T cs m long true h)
         ∙ ap (λ s. judge (suc n) (after (atStart T cs) s) (linesOf (drop to text))) w
         ∙ rw (own, add-one n))

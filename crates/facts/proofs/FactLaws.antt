@@ -1,27 +1,27 @@
 -- A line at the place of the facts says one of three facts and one at the place of the size says a size: a test of all words. What its
 -- word's function stores is that fact, since numbers in their ranges fit a byte. Assumes nothing.
-use Prim.Native.Nat.{ℕ, _≤_, _<_, _%_}
+use Prim.Native.Nat.{ℕ, _≤_, _%_}
 use native.Mathlib.Omega.{arith}
-use native.Mathlib.Decide.{ℕ-discrete}
 use mathlib.Core.Bool.{Bool, true, false, not}
-use mathlib.Core.List.{List}
+use mathlib.Core.List.{List, [], map}
 use mathlib.Core.Path.{_≡_, refl, sym, ap, subst, _∙_}
 use lib.ListN.{length, getD, drop}
-use borrow.Author.Tests.{ne-eqb}
-use Rattle.lines.specs.Text.{words, rowOf, wordCount, stands as allowedAt, linesOf}
+use Rattle.lines.specs.Text.{atSize, atFacts, words, wordCount, rowOf, stands as allowedAt, linesOf}
+use Rattle.lines.specs.Walk.{sizeFrom, factsFrom}
 use Rattle.lines.specs.declared.Line.{Line}
 use Rattle.lines.proofs.Told.{Told, told}
 use Rattle.reading.proofs.Loop.{Line-found}
-use Rattle.lines.proofs.Words.{spans, within-low, within-high}
+use Rattle.lines.proofs.Words.{spanned}
 use Rattle.alc.specs.Lists.{All, every}
 use Rattle.alc.specs.Ranges.{inRange}
 use Rattle.alc.specs.Rows.{refusal}
 use Rattle.alc.specs.Table.{Table}
 use Rattle.alc.specs.Claims.{Sided}
 use Rattle.alc.specs.Model.{Fact, places, has, edge, factFields, repeats}
-use Rattle.alc.specs.Dossier.{size, fact, unread, sayings, saying}
+use Rattle.alc.specs.Dossier.{size, fact, unread, facts, sayings, saying}
 use Rattle.alc.specs.Verdict.{rows}
 use Rattle.heading.specs.Fields.{saidFields}
+use Rattle.heading.proofs.Said.{said-part}
 use Rattle.heading.proofs.Small.{Small, small}
 use Rattle.heading.proofs.TableLaws.{byte}
 use Rattle.models.specs.Shown.{Below, PlaceSet, AtomSet, EdgeSet}
@@ -34,30 +34,16 @@ pub found-told : (text : List ℕ) (at p : ℕ) (l : Line) (to : ℕ) → Line-f
 found-told text at p l to f = told (drop at text) l (linesOf (drop to text)) (f .lines)
 
 -- the words that stand at a place
-pub fact-word : (l : Line) → allowedAt 4 l ≡ true → 33 ≤ l .word
+pub fact-word : (l : Line) → allowedAt atFacts l ≡ true → factsFrom ≤ l .word
 unfolding words rowOf
-fact-word l a = within-low 33 36 (l .word) (sym (spans 4 33 36 (omega arith) refl (l .word)) ∙ a)
+fact-word l a = spanned atFacts factsFrom wordCount (omega arith) refl (l .word) a .0
 
-pub size-word : (l : Line) → allowedAt 3 l ≡ true → l .word ≡ 32
+pub size-word : (l : Line) → allowedAt atSize l ≡ true → l .word ≡ sizeFrom
 unfolding words rowOf
-size-word l a =
-    let h = sym (spans 3 32 33 (omega arith) refl (l .word)) ∙ a in
-    omega (arith, within-low 32 33 (l .word) h, within-high 32 33 (l .word) h)
+size-word l a = omega (arith, spanned atSize sizeFrom factsFrom (omega arith) refl (l .word) a)
 
-pub size-said : (l : Line) → l .word ≡ 32 → saying l ≡ size (l .n0)
+pub size-said : (l : Line) → l .word ≡ sizeFrom → saying l ≡ size (l .n0)
 size-said l e = ap (λ w. getD (sayings (l .side) (l .n0) (l .n1) (l .n2)) w unread) e
-
--- the fact that is said
-said-by : (s x y z w : ℕ) → 33 ≤ w → w < wordCount → getD (sayings s x y z) w unread ≡ fact (factBy w x y z)
-said-by s x y z w h k = go (ℕ-discrete w 33) (ℕ-discrete w 34)
-  where
-    at : (n : ℕ) → w ≡ n → getD (sayings s x y z) n unread ≡ fact (factBy n x y z) → getD (sayings s x y z) w unread ≡ fact (factBy w x y z)
-    at n e p = subst (λ v. getD (sayings s x y z) v unread ≡ fact (factBy v x y z)) (sym e) p
-
-    go : Dec (w ≡ 33) → Dec (w ≡ 34) → getD (sayings s x y z) w unread ≡ fact (factBy w x y z)
-    go (yes e) d = at 33 e refl
-    go (no n) (yes e) = at 34 e refl
-    go (no n) (no m) = at 35 (omega arith) refl
 
 -- the ranges of a fact, up to any number of elements and for any number of entries
 fact-below : (e k m : ℕ) → k ≤ m → (f : Fact) → All (Below e k) (factFields f) → All (Below 0 m) (factFields f)
@@ -65,9 +51,11 @@ fact-below e k m h (places a d) b = (b .0, (omega (arith, b .1 .0), tt))
 fact-below e k m h (has A d) b = (b .0, (omega (arith, b .1 .0), tt))
 fact-below e k m h (edge r d g) b = (b .0, (omega (arith, b .1 .0), (omega (arith, b .1 .1 .0), tt)))
 
-module _ (l : Line) (t : Told l) (w : 33 ≤ l .word) where
+module _ (l : Line) (t : Told l) (w : factsFrom ≤ l .word) where
   plain : saying l ≡ fact (factBy (l .word) (l .n0) (l .n1) (l .n2))
-  plain = said-by (l .side) (l .n0) (l .n1) (l .n2) (l .word) w (t .known)
+  plain =
+      let said = sayings (l .side) (l .n0) (l .n1) (l .n2) in
+      said-part fact said factsFrom (map (λ r. r .said) (facts (l .n0) (l .n1) (l .n2))) [] (places (l .n0) (l .n1)) refl (l .word) w (t .known)
 
   module _ (e k : ℕ) (le : e ≤ 256) (lk : k ≤ 32) (h : every (inRange e k) (saidFields (saying l)) ≡ true) where
     fits : Small l
@@ -109,29 +97,13 @@ module _ (l : Line) (t : Told l) (w : 33 ≤ l .word) where
       unfolding rows
       fact-0 r = ap (λ s. refusal (rows (inFacts T cs k fs) s)) (fact-said e k le lk h) ∙ rw (g, r)
 
--- the fact of each word, and that its numbers are as small as its function asks
+-- the fact of a word's number, and that its numbers are as small as its function asks
 module _ (l : Line) where
-  pub as-place : l .word ≡ 33 → factIn l ≡ places (l .n0 % 256) (l .n1 % 256)
-  as-place e = rw e
+  pub fact-at : (w : ℕ) → l .word ≡ w → factIn l ≡ factBy w (l .n0 % 256) (l .n1 % 256) (l .n2 % 256)
+  fact-at w e = ap (λ k. factBy k (l .n0 % 256) (l .n1 % 256) (l .n2 % 256)) e
 
-  pub as-atom : l .word ≡ 34 → factIn l ≡ has (l .n0 % 256) (l .n1 % 256)
-  as-atom e = rw e
-
-  pub as-edge : (l .word ≡ 33 → ⊥) → (l .word ≡ 34 → ⊥) → factIn l ≡ edge (l .n0 % 256) (l .n1 % 256) (l .n2 % 256)
-  as-edge n m = rw (ne-eqb (l .word) 33 n, ne-eqb (l .word) 34 m)
-
-  module _ (b : All (Below 0 32) (factFields (factIn l))) where
-    low : (f : Fact) → factIn l ≡ f → All (Below 0 32) (factFields f)
-    low f e = subst (λ (h : Fact). All (Below 0 32) (factFields h)) e b
-
-    pub place-low : l .word ≡ 33 → (l .n0 % 256 < 64) × (l .n1 % 256 < 32)
-    place-low e = let q = low _ (as-place e) in (q .0, q .1 .0)
-
-    pub atom-low : l .word ≡ 34 → (l .n0 % 256 < 64) × (l .n1 % 256 < 32)
-    atom-low e = let q = low _ (as-atom e) in (q .0, q .1 .0)
-
-    pub edge-low : (l .word ≡ 33 → ⊥) → (l .word ≡ 34 → ⊥) → (l .n0 % 256 < 16) × (l .n1 % 256 < 32) × (l .n2 % 256 < 32)
-    edge-low n m = let q = low _ (as-edge n m) in (q .0, q .1 .0, q .1 .1 .0)
+  pub low-at : All (Below 0 32) (factFields (factIn l)) → (w : ℕ) → l .word ≡ w → All (Below 0 32) (factFields (factBy w (l .n0 % 256) (l .n1 % 256) (l .n2 % 256)))
+  low-at b w e = subst (λ (f : Fact). All (Below 0 32) (factFields f)) (fact-at w e) b
 
 -- what is stored: the fact f, whatever stands before it
 module _ (f : Fact) (ps ats es new : List ℕ) (r : Bool) (n : ℕ) (fs : List Fact) (low : All (Below 0 n) (factFields f)) (t : Tells n fs ps ats es) where

@@ -1,12 +1,13 @@
 -- The walk over the facts of a model: the arrays tell the facts read so far, and the judge is where the walk is. Assumes nothing.
-use Prim.Native.Nat.{ℕ, suc, _+_, _≤_}
+use Prim.Native.Nat.{ℕ, suc, _+_, _≤_, _<_}
 use native.Mathlib.Omega.{arith}
 use native.Mathlib.Numerals.{add-one}
 use mathlib.Core.Bool.{Bool, true, false}
 use mathlib.Core.List.{List, [], _∷_, _++_}
 use mathlib.Core.Path.{_≡_, refl, sym, ap₂, _∙_}
 use lib.ListN.{length, drop}
-use Rattle.lines.specs.Text.{linesOf}
+use Rattle.lines.specs.Text.{atFacts, wordCount, linesOf}
+use Rattle.lines.specs.Walk.{factsFrom}
 use Rattle.lines.specs.declared.Line.{Line}
 use Rattle.lines.proofs.Told.{Told}
 use Rattle.reading.proofs.Loop.{Line-found, Line-bad}
@@ -37,28 +38,28 @@ module _ (text : List ℕ) (start before entries size : ℕ) (ps ats es : List �
 
   module _ (le : entries ≤ 256) (lk : size ≤ 32) (at n : ℕ) (v : Walk text start before entries size ps ats es at n) where
     -- the walk stops: at a line that is refused or at the end
-    pub stops-bad : Line-bad text at 4 → Judged text start before entries size (λ T cs. refused 2 (suc n))
-    stops-bad b T cs e = v .so T cs e ∙ judge-bad text at 4 n (inFacts T cs size (v .facts)) refl b
+    pub stops-bad : Line-bad text at atFacts → Judged text start before entries size (λ T cs. refused 2 (suc n))
+    stops-bad b T cs e = v .so T cs e ∙ judge-bad text at atFacts n (inFacts T cs size (v .facts)) refl b
 
     pub stops-end : linesOf (drop at text) ≡ [] → Judged text start before entries size (λ T cs. modelled n (inFacts T cs size (v .facts)))
     unfolding ending
     stops-end z T cs e = v .so T cs e ∙ judge-end n (inFacts T cs size (v .facts)) _ z
 
-    module _ (l : Line) (to : ℕ) (f : Line-found text at 4 l to) where
+    module _ (l : Line) (to : ℕ) (f : Line-found text at atFacts l to) where
       t : Told l
-      t = found-told text at 4 l to f
+      t = found-told text at atFacts l to f
 
-      w : 33 ≤ l .word
+      w : factsFrom ≤ l .word
       w = fact-word l (f .allowed)
 
       pub stops-ranges : every (inRange entries size) (saidFields (saying l)) ≡ false → Judged text start before entries size (λ T cs. refused 3 (suc n))
       stops-ranges h T cs e =
           let S = inFacts T cs size (v .facts) in
-          v .so T cs e ∙ judge-refused text at 4 n S refl l to f 3 (fact-3 l t w T cs entries size (v .facts) e h) (λ (z : _≡_ {A = ℕ} 3 0). omega arith)
+          v .so T cs e ∙ judge-refused text at atFacts n S refl l to f 3 (fact-3 l t w T cs entries size (v .facts) e h) (λ (z : _≡_ {A = ℕ} 3 0). omega arith)
 
       module _ (h : every (inRange entries size) (saidFields (saying l)) ≡ true) where
-        pub line-small : All (Below 0 32) (factFields (factIn l))
-        line-small = fact-small l t w entries size le lk h
+        pub line-small : (factsFrom ≤ l .word) × (l .word < wordCount) × All (Below 0 32) (factFields (factIn l))
+        line-small = (w, t .known, fact-small l t w entries size le lk h)
 
         pub line-fits : All (Below 0 size) (factFields (factIn l))
         line-fits = fact-fits l t w entries size le lk h
@@ -68,7 +69,7 @@ module _ (text : List ℕ) (start before entries size : ℕ) (ps ats es : List �
           stops-repeat q T cs e =
               let S = inFacts T cs size (v .facts) in
               v .so T cs e
-              ∙ judge-refused text at 4 n S refl l to f 4 (fact-4 l t w T cs entries size (v .facts) e le lk h (sym (s .answer) ∙ q)) (λ (z : _≡_ {A = ℕ} 4 0). omega arith)
+              ∙ judge-refused text at atFacts n S refl l to f 4 (fact-4 l t w T cs entries size (v .facts) e le lk h (sym (s .answer) ∙ q)) (λ (z : _≡_ {A = ℕ} 4 0). omega arith)
 
           -- the walk goes on: the fact is stored
           pub walk-more : fresh ≡ true → Walk text start before entries size us vs ws to (n + 1)
@@ -81,6 +82,6 @@ module _ (text : List ℕ) (start before entries size : ℕ) (ps ats es : List �
             so = λ T cs e.
                 let S = inFacts T cs size (v .facts) in
                 v .so T cs e
-                ∙ judge-next text at 4 n S refl l to f (fact-0 l t w T cs entries size (v .facts) e le lk h (sym (s .answer) ∙ q))
+                ∙ judge-next text at atFacts n S refl l to f (fact-0 l t w T cs entries size (v .facts) e le lk h (sym (s .answer) ∙ q))
                 ∙ ap₂ (λ k d. judge k (after S d) (linesOf (drop to text))) (sym (add-one n)) (fact-said l t w entries size le lk h);
           }

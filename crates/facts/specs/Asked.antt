@@ -1,17 +1,18 @@
 -- What the judging of a model asks of its caller, the fact that a line is, and what storing it does.
 -- Assumes nothing.
-use Prim.Native.Nat.{ℕ, _≤_, _%_}
-use mathlib.Core.Bool.{Bool, true, not, cond}
-use mathlib.Core.List.{List, [], _∷_, _++_}
+use Prim.Native.Nat.{ℕ, _-_, _≤_, _%_}
+use mathlib.Core.Bool.{Bool, true, not}
+use mathlib.Core.List.{List, [], _∷_, _++_, map}
 use mathlib.Core.Path.{_≡_}
-use lib.Dec.{eqb}
-use lib.ListN.{length}
+use lib.ListN.{length, getD}
+use Rattle.lines.specs.Walk.{factsFrom}
 use Rattle.lines.specs.declared.Line.{Line}
 use Rattle.alc.specs.Lists.{All, every}
 use Rattle.alc.specs.Ranges.{inRange}
 use Rattle.alc.specs.Table.{Table}
 use Rattle.alc.specs.Claims.{Sided, claim, claimFields}
-use Rattle.alc.specs.Model.{Fact, places, has, edge, repeats}
+use Rattle.alc.specs.Model.{Fact, places, repeats}
+use Rattle.alc.specs.Dossier as Dossier
 use Rattle.alc.specs.Shown.{claimsIn}
 use Rattle.alc.specs.declared.Goal.{Goal as Records}
 use Rattle.alc.specs.Verdict.{State, facts}
@@ -30,9 +31,9 @@ pub record Asked (text : List ℕ) (start before : ℕ) (ks xs ys : List ℕ) (e
 abbrev pub inFacts : Table → List Sided → ℕ → List Fact → State
 inFacts T cs k fs = record { part = facts; table = T; claims = cs; steps = 0; goals = []; size = k; facts = fs }
 
--- the fact that word w says: 33 `name`, 34 `has`, 35 `edge`
+-- the fact that a word says with these numbers
 abbrev pub factBy : ℕ → ℕ → ℕ → ℕ → Fact
-factBy w x y z = cond (eqb w 33) (places x y) (cond (eqb w 34) (has x y) (edge x y z))
+factBy w x y z = getD (map (λ r. r .said) (Dossier.facts x y z)) (w - factsFrom) (places x y)
 
 -- the fact that a line of the text is
 abbrev pub factIn : Line → Fact

@@ -7,16 +7,15 @@ use alc::Goal;
 use alc::Name;
 use alc::Role;
 use lines::AT_SIZE;
-use lines::HAS;
 use lines::IN_FACTS;
 use lines::Line;
-use lines::NAME;
 use lines::Next;
 ghost use mathlib.Core.Path.{_≡_};
 ghost use mathlib.Core.List.{List, []};
 ghost use Prim.Native.Nat.{ℕ, _<_, _≤_};
 ghost use lib.ListN.{length, drop};
-ghost use Rattle.lines.specs.Text.{linesOf};
+ghost use Rattle.lines.specs.Text.{wordCount, linesOf};
+ghost use Rattle.lines.specs.Walk.{factsFrom};
 ghost use Rattle.alc.specs.Lists.{All};
 ghost use Rattle.alc.specs.Model.{Fact, factFields};
 ghost use Rattle.alc.specs.Shown.{claimsIn, answered, tableOf};
@@ -30,15 +29,15 @@ ghost use Rattle.facts.specs.Read.{FactsRead};
 
 // Stores the fact that a line is, by its word, and says whether it repeats nothing.
 fn store(l: Line, places: &mut [u8; 64], atoms: &mut [u32; 64], edges: &mut [u32; 512]) -> bool
-    requires { ⌜ All (Below 0 32) (factFields (factIn l)) ⌝ }
+    requires { ⌜ (factsFrom ≤ l .word) × (l .word < wordCount) × All (Below 0 32) (factFields (factIn l)) ⌝ }
     ensures { λ r. ⌜ ((n : ℕ) (fs : List Fact) → All (Below 0 n) (factFields (factIn l)) → Tells n fs (now (places .entry)) (now (atoms .entry)) (now (edges .entry)) → Stored n fs (factIn l) (now (places .exit)) (now (atoms .exit)) (now (edges .exit)) r) ⌝ }
 {
     let x = (l.n0 % 256) as u8;
     let y = (l.n1 % 256) as u8;
-    if l.word == NAME {
+    if l.word == lines::NAME {
         return models::set_place(places, Name(x), Element(y));
     }
-    if l.word == HAS {
+    if l.word == lines::HAS {
         return models::set_atom(atoms, Atom(x), Element(y));
     }
     let z = (l.n2 % 256) as u8;

@@ -19,7 +19,7 @@ use Rattle.alc.specs.Lists.{any, every, firstAt}
 use Rattle.alc.specs.Rows.{refusal}
 use Rattle.alc.specs.Meaning.{everyBelow}
 use Rattle.alc.specs.Table.{Kind, Kind-discrete}
-use Rattle.alc.specs.Shown.{records, blank, kindAt}
+use Rattle.alc.specs.Shown.{records, blank, kindCount, kindAt}
 use Rattle.alc.specs.declared.Claim.{Claim as Record}
 use Rattle.alc.specs.declared.Goal.{Goal as Records}
 use Rattle.alc.proofs.Goal.{the-type}
@@ -296,7 +296,7 @@ agree : ℕ → ℕ → Bool
 unfolding decide
 agree a k = cond (eqb a k) (decide (Kind-discrete (kindAt k) (kindAt a))) (not (decide (Kind-discrete (kindAt k) (kindAt a))))
 
-agree-all : everyBelow 8 (λ a. everyBelow 8 (λ k. agree a k)) ≡ true
+agree-all : everyBelow kindCount (λ a. everyBelow kindCount (λ k. agree a k)) ≡ true
 unfolding agree decide
 agree-all = refl
 
@@ -305,18 +305,18 @@ cond-same true c h = sym h
 cond-same false true h = h
 cond-same false false h = refl
 
-pub kind-same : (a k : ℕ) → a < 8 → k < 8 → eqb a k ≡ decide (Kind-discrete (kindAt k) (kindAt a))
+pub kind-same : (a k : ℕ) → a < kindCount → k < kindCount → eqb a k ≡ decide (Kind-discrete (kindAt k) (kindAt a))
 unfolding agree
-kind-same a k h l = cond-same (eqb a k) _ (every-true (λ j. agree a j) 8 (every-true (λ b. everyBelow 8 (λ j. agree b j)) 8 agree-all a h) k l)
+kind-same a k h l = cond-same (eqb a k) _ (every-true (λ j. agree a j) kindCount (every-true (λ b. everyBelow kindCount (λ j. agree b j)) kindCount agree-all a h) k l)
 
-pub kind-asked : (a k : ℕ) → (a ≡ 8 → ⊥) → k < 8 → eqb a k ≡ asks a (kindAt k)
-kind-asked a k n l = go (decLt a 8)
+pub kind-asked : (a k : ℕ) → (a ≡ kindCount → ⊥) → k < kindCount → eqb a k ≡ asks a (kindAt k)
+kind-asked a k n l = go (decLt a kindCount)
   where
-    go : Dec (a < 8) → eqb a k ≡ asks a (kindAt k)
-    go (yes h) = rw (ne-eqb a 8 n, lt-ltb a 8 h) (kind-same a k h l)
-    go (no h) = rw (ne-eqb a 8 n, le-ltb a 8 (omega arith), ne-eqb a k (λ e. omega arith))
+    go : Dec (a < kindCount) → eqb a k ≡ asks a (kindAt k)
+    go (yes h) = rw (ne-eqb a kindCount n, lt-ltb a kindCount h) (kind-same a k h l)
+    go (no h) = rw (ne-eqb a kindCount n, le-ltb a kindCount (omega arith), ne-eqb a k (λ e. omega arith))
 
-pub any-asked : (a : ℕ) (k : Kind) → a ≡ 8 → true ≡ asks a k
+pub any-asked : (a : ℕ) (k : Kind) → a ≡ kindCount → true ≡ asks a k
 any-asked a k h = rw h
 
 -- what a plan adds, by its number

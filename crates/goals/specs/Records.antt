@@ -6,12 +6,14 @@ use mathlib.Core.List.{List, [], _∷_, _++_, map}
 use mathlib.Core.Path.{_≡_}
 use lib.Dec.{eqb, ltb, leb}
 use lib.ListN.{length, getD, take, drop}
+use Rattle.lines.specs.Walk.{stepsFrom}
 use Rattle.alc.specs.Lists.{any, every, distinct}
 use Rattle.alc.specs.Rows.{Row, row, refusal}
 use Rattle.alc.specs.Table.{Kind, Kind-discrete}
 use Rattle.alc.specs.Rules
 use Rattle.alc.specs.Rules.{Step, Plan}
-use Rattle.alc.specs.Shown.{records, recordOf, kindAt}
+use Rattle.alc.specs.Dossier.{steps}
+use Rattle.alc.specs.Shown.{isKind, linkKind, records, recordOf, kindCount, kindAt}
 use Rattle.alc.specs.declared.Claim.{Claim as Record}
 use Rattle.alc.specs.declared.Goal.{Goal as Records}
 use Rattle.alc.specs.declared.Name.{Name}
@@ -35,7 +37,7 @@ sameRecord c d = equal (numbers c) (numbers d)
 
 -- the record is of an `is` or a `link` with the name
 unfoldable pub hasName : ℕ → Record → Bool
-hasName a c = (eqb (c .kind) 1 && eqb a (c .a .0)) || (eqb (c .kind) 3 && (eqb a (c .a .0) || eqb a (c .b .0)))
+hasName a c = (eqb (c .kind) isKind && eqb a (c .a .0)) || (eqb (c .kind) linkKind && (eqb a (c .a .0) || eqb a (c .b .0)))
 
 -- the records without the first copy of c
 unfoldable pub lacking : Record → List Record → List Record
@@ -48,36 +50,13 @@ keeping false needs l = l
 keeping true [] l = l
 keeping true (c ∷ needs) l = lacking c l
 
--- the step of a rule's number with its fields, in the order of the words
+-- the step of a word's number with its fields
 unfoldable pub stepOf : ℕ → ℕ → ℕ → ℕ → Step
-stepOf rule x y z =
-    getD
-    (Rules.id x y
-    ∷ Rules.id-sub x y
-    ∷ Rules.id-link x y z
-    ∷ Rules.bot-l x y
-    ∷ Rules.top-r x y
-    ∷ Rules.top-l x y
-    ∷ Rules.bot-r x y
-    ∷ Rules.not-l x y
-    ∷ Rules.not-r x y
-    ∷ Rules.and-l x y
-    ∷ Rules.and-r x y
-    ∷ Rules.or-l x y
-    ∷ Rules.or-r x y
-    ∷ Rules.sub-l x y z
-    ∷ Rules.sub-r x y z
-    ∷ Rules.some-l x y z
-    ∷ Rules.some-r x y z
-    ∷ Rules.all-l x y z
-    ∷ Rules.all-r x y z
-    ∷ [])
-    rule
-    (Rules.id x y)
+stepOf w x y z = getD (map (λ r. r .said) (steps x y z)) (w - stepsFrom) (Rules.id x y)
 
--- the entry is of the kind asked; 8 asks none
+-- the entry is of the kind asked; the number behind the kinds asks none
 abbrev pub asks : ℕ → Kind → Bool
-asks asked k = cond (eqb asked 8) true (ltb asked 8 && decide (Kind-discrete k (kindAt asked)))
+asks asked k = cond (eqb asked kindCount) true (ltb asked kindCount && decide (Kind-discrete k (kindAt asked)))
 
 -- none of two, the first, or both
 abbrev pub upTo : ℕ → Record → Record → List Record
@@ -121,25 +100,15 @@ rulingBy k p =
 pub record Plans (k : Kind) (p : Planned) (q : Plan) : Type 0 where
   pub is : rulingBy k p ≡ ruling q
 
--- the four forms of a plan. A goal closes
-abbrev pub closing : ℕ → ℕ → Record → Record → Planned
-closing k n need also =
-    record { kind = k; needs = n; need = need; also = also; drops = false; fresh = false; name = record { 0 = 0 }; leaves = 0; first = need; second = need }
+-- the two forms of a plan. It drops nothing
+abbrev pub keepsPlan : ℕ → ℕ → Record → Record → ℕ → Record → Record → Planned
+keepsPlan k n need also l first second =
+    record { kind = k; needs = n; need = need; also = also; drops = false; fresh = false; name = record { 0 = 0 }; leaves = l; first = first; second = second }
 
--- one claim comes
-abbrev pub adding : ℕ → ℕ → Record → Record → Record → Planned
-adding k n need also new =
-    record { kind = k; needs = n; need = need; also = also; drops = false; fresh = false; name = record { 0 = 0 }; leaves = 1; first = new; second = new }
-
--- a claim goes and its parts come
-abbrev pub parting : ℕ → Record → ℕ → Record → Record → Planned
-parting k need l first second =
-    record { kind = k; needs = 1; need = need; also = need; drops = true; fresh = false; name = record { 0 = 0 }; leaves = l; first = first; second = second }
-
--- a claim goes and two come, with a new name
-abbrev pub opening : ℕ → Record → Name → Record → Record → Planned
-opening k need b first second =
-    record { kind = k; needs = 1; need = need; also = need; drops = true; fresh = true; name = b; leaves = 2; first = first; second = second }
+-- or the claim that it needs
+abbrev pub dropsPlan : ℕ → Record → Bool → Name → ℕ → Record → Record → Planned
+dropsPlan k need new b l first second =
+    record { kind = k; needs = 1; need = need; also = need; drops = true; fresh = new; name = b; leaves = l; first = first; second = second }
 
 -- the names are new: in none of the records, and none of them twice
 abbrev pub newIn : List ℕ → List Record → Bool

@@ -4,6 +4,7 @@ use alc::Claim;
 use alc::Concept;
 use alc::Goal;
 use alc::Name;
+use alc::kinds;
 ghost use mathlib.Core.Path.{_≡_};
 ghost use mathlib.Core.List.{[], _∷_, _++_};
 ghost use Prim.Native.Nat.{_+_, _≤_};
@@ -13,16 +14,16 @@ ghost use Rattle.alc.specs.Lists.{any, firstAt};
 ghost use Rattle.alc.specs.Shown.{records};
 ghost use Rattle.goals.specs.Records.{sameRecord, hasName};
 
-// A line of the table: its kind's number, from 0 `top` to 7 `all`, and its two numbers.
+// A line of the table: its kind's number, and its two numbers.
 pub struct Entry {
     pub kind: u8,
     pub x: u8,
     pub y: u8,
 }
 
-// A step: its rule's number, in the order of the words, and its fields.
+// A step: its word's number and its fields.
 pub struct Step {
-    pub rule: u8,
+    pub word: u8,
     pub x: u8,
     pub y: u8,
     pub z: u8,
@@ -41,14 +42,26 @@ pub struct Plan {
     // whether `name` must be new
     pub fresh: bool,
     pub name: Name,
-    // 0 closes the goal; 1 and 2 add so many claims; 3 leaves two premises, with a claim each
+    // what comes: CLOSES, ONE, TWO or PARTS
     pub leaves: u8,
     pub first: Claim,
     pub second: Claim,
 }
 
+// What a plan leaves. The goal closes,
+pub const CLOSES: u8 = 0;
+
+// one claim comes,
+pub const ONE: u8 = 1;
+
+// two claims come,
+pub const TWO: u8 = 2;
+
+// or there are two premises, with a claim each.
+pub const PARTS: u8 = 3;
+
 // The kind of a plan that asks no kind of entry.
-pub const ANY: u8 = 8;
+pub const ANY: u8 = kinds::ALL + 1;
 
 // What a step does to the current goal: the refusal's number, or 0 and how its premises are made. It holds no goal, since one held by value is
 // copied from hop to hop.
@@ -112,10 +125,10 @@ pub fn find(g: Goal, c: Claim) -> usize
 fn names(c: Claim, a: Name) -> bool
     ensures { λ r. ⌜ r ≡ hasName (a .0) c ⌝ }
 {
-    if c.kind == 1 {
+    if c.kind == kinds::IS {
         return a.0 == c.a.0;
     }
-    if c.kind != 3 {
+    if c.kind != kinds::LINK {
         return false;
     }
     if a.0 == c.a.0 {
@@ -153,7 +166,7 @@ pub fn has(g: Goal, c: Claim) -> bool
 pub fn empty() -> Goal
     ensures { λ r. ⌜ (records r ≡ []) × (r .count ≡ 0) ⌝ }
 {
-    let blank = alc::is(0, Name(0), Concept(0));
+    let blank = alc::is(lines::NO_SIDE, Name(0), Concept(0));
     Goal {
         claims: [blank; 64],
         count: 0,

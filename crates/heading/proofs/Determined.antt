@@ -10,7 +10,8 @@ use native.Mathlib.Decide.{decLt}
 use lib.Dec.{ltb}
 use lib.ListN.{length, getD}
 use borrow.Author.Tests.{lt-ltb, le-ltb, eqb-true}
-use Rattle.lines.specs.Walk.{readAt}
+use Rattle.lines.specs.Text.{atTable, atClaims}
+use Rattle.lines.specs.Walk.{claimsFrom, readAt}
 use Rattle.lines.specs.declared.Line.{Line}
 use Rattle.lines.specs.declared.Next.{Next}
 use Rattle.lines.specs.declared.Next.the-variants.{Found, Bad, End}
@@ -31,7 +32,7 @@ use Rattle.heading.specs.Parts
 use Rattle.heading.proofs.Through.{Stuck, found-same, stage, Same, turn, out-of-table, through-on, through-either, both-last, both-stuck, apart}
 use Rattle.heading.proofs.Stops.{in-claims, claims-halts, claims-apart}
 
--- columns with the same table have the same numbers in its lines, since the kinds of a line are one for each number below 8
+-- columns with the same table have the same numbers in its lines, since the kinds of a line are one for each number
 pub columns-once : {ks xs ys us vs ws : List ℕ} {n m : ℕ} → Columns ks xs ys n → Columns us vs ws m → tableOf ks xs ys n ≡ tableOf us vs ws m
     → (i : ℕ) → i < n → SameAt i ks xs ys us vs ws
 columns-once {ks} {xs} {ys} {us} {vs} {ws} {n} {m} c d e i h =
@@ -51,21 +52,21 @@ columns-once {ks} {xs} {ys} {us} {vs} {ws} {n} {m} c d e i h =
 tableNumber : Table → Next → ℕ
 tableNumber T Bad = 2
 tableNumber T End = 0
-tableNumber T (Found l to) = cond (ltb (l .word) 8) (refusal (rows (inTable T) (saying l))) 0
+tableNumber T (Found l to) = cond (ltb (l .word) claimsFrom) (refusal (rows (inTable T) (saying l))) 0
 
 table-number : {T : Table} {x : Next} {k : ℕ} → TableEnd T x k → k ≡ tableNumber T x
 unfolding tableNumber
 table-number Parts.wrong = refl
-table-number (Parts.failed {l} w q) = sym (rw (lt-ltb (l .word) 8 w) q)
-table-number (Parts.other {l} w) = sym (rw (le-ltb (l .word) 8 w))
+table-number (Parts.failed {l} w q) = sym (rw (lt-ltb (l .word) claimsFrom w) q)
+table-number (Parts.other {l} w) = sym (rw (le-ltb (l .word) claimsFrom w))
 table-number Parts.over = refl
 
 table-ended : {text : List ℕ} (T : Table) {n a m b k : ℕ} {S F : State} → Through text n a S m b F → S ≡ inTable T
-    → TableEnd T (readAt text a 0) k → stage F ≡ 0 → Same n a S m b F
+    → TableEnd T (readAt text a atTable) k → stage F ≡ 0 → Same n a S m b F
 table-ended T none e d f = (refl, refl, refl)
-table-ended {text} T {a = a} {k = k} {S = S} {F = F} (line {next = to} {l = l} r p v) e d f = absurd (go (readAt text a 0) k r′ d)
+table-ended {text} T {a = a} {k = k} {S = S} {F = F} (line {next = to} {l = l} r p v) e d f = absurd (go (readAt text a atTable) k r′ d)
   where
-    r′ : readAt text a 0 ≡ Found l to
+    r′ : readAt text a atTable ≡ Found l to
     r′ = subst (λ (Z : State). readAt text a (place (Z .part)) ≡ Found l to) e r
 
     go : (x : Next) (j : ℕ) → x ≡ Found l to → TableEnd T x j → ⊥
@@ -75,8 +76,8 @@ table-ended {text} T {a = a} {k = k} {S = S} {F = F} (line {next = to} {l = l} r
         let z : suc i ≡ 0 = sym q ∙ ap (λ (h : Line). refusal (rows (inTable T) (saying h))) (found-same y .0) ∙ o in
         omega arith
     go x j y (Parts.other w) =
-        let h : 8 ≤ l .word = subst (λ (i : Line). 8 ≤ i .word) (found-same y .0) w in
-        omega (arith, f, through-on v (out-of-table S l (in-claims l h (when-found text a 0 l to r′ .allowed))))
+        let h : claimsFrom ≤ l .word = subst (λ (i : Line). claimsFrom ≤ i .word) (found-same y .0) w in
+        omega (arith, f, through-on v (out-of-table S l (in-claims l h (when-found text a atTable l to r′ .allowed))))
     go x j y Parts.over = let z : _≡_ {A = ℕ} 0 1 = cc in omega arith
 
 -- two readings of the table of one text are the same, and so are the tables
@@ -104,8 +105,8 @@ module _ {text ks₀ xs₀ ys₀ ks xs ys us vs ws : List ℕ} {r s : Listed} (t
       number : r .number ≡ s .number
       number =
           table-number (t .ends)
-          ∙ ap (λ (Z : Table). tableNumber Z (readAt text (r .at) 0)) one-table
-          ∙ ap (λ (k : ℕ). tableNumber U (readAt text k 0)) (same-end .1)
+          ∙ ap (λ (Z : Table). tableNumber Z (readAt text (r .at) atTable)) one-table
+          ∙ ap (λ (k : ℕ). tableNumber U (readAt text k atTable)) (same-end .1)
           ∙ sym (table-number (u .ends))
 
   -- and the columns, at every place
@@ -132,7 +133,7 @@ claims-number (Parts.failed q) = sym q
 claims-number Parts.over = refl
 
 -- and no walk goes on behind it
-stuck : (text : List ℕ) (T : Table) (cs : List Sided) (at k : ℕ) → ClaimsEnd T cs (readAt text at 1) k → Stuck text at (inClaims T cs)
+stuck : (text : List ℕ) (T : Table) (cs : List Sided) (at k : ℕ) → ClaimsEnd T cs (readAt text at atClaims) k → Stuck text at (inClaims T cs)
 stuck text T cs at k d = claims-halts text T cs 0 at k _ refl d .stuck
 
 -- two readings of the claims are the same
@@ -151,7 +152,7 @@ module _ {text : List ℕ} {T : Table} {begun : ℕ} where
   one-lead {cs} {ds} {at = at} (Parts.refused v d) (Parts.refused w e) =
       let q = both-stuck v w (stuck text T _ _ _ d) (stuck text T _ _ _ e) in
       let c : cs ≡ ds = ap (λ (S : State). S .claims) (q .2) in
-      let f = ap (λ (l : List Sided). claimsNumber T l (readAt text at 1)) c ∙ ap (λ (i : ℕ). claimsNumber T ds (readAt text i 1)) (q .1) in
+      let f = ap (λ (l : List Sided). claimsNumber T l (readAt text at atClaims)) c ∙ ap (λ (i : ℕ). claimsNumber T ds (readAt text i atClaims)) (q .1) in
       (c, q .0, q .1, claims-number d ∙ f ∙ sym (claims-number e), refl)
 
   pub one-claims : {r s : Heading} → ClaimsRead text T begun r → ClaimsRead text T begun s

@@ -1,82 +1,58 @@
 -- The numbers of a line whose fields are in their ranges fit a byte: a field in its range does, and what is not said is 0. Assumes nothing.
-use Prim.Native.Nat.{ℕ, _≤_, _<_}
+use Prim.Native.Nat.{ℕ, zero, suc, _≤_, _<_}
 use native.Mathlib.Omega.{arith}
-use native.Mathlib.Decide.{ℕ-discrete}
-use mathlib.Core.Bool.{Bool, true, false, _&&_, _||_, false≢true}
-use mathlib.Core.List.{List, [], _∷_}
-use mathlib.Core.Path.{_≡_, refl, sym, _∙_}
-use lib.Dec.{leb}
+use mathlib.Core.Bool.{Bool, true, false, _&&_, _||_}
+use mathlib.Core.Path.{_≡_, refl, sym, ap, _∙_}
+use lib.Dec.{ltb, leb}
 use lib.ListN.{getD}
-use borrow.Author.Tests.{ne-eqb, ltb-true, leb-true}
+use borrow.Author.Tests.{ltb-true, leb-true}
 use Rattle.lines.specs.Text.{wordCount, words, rowOf}
 use Rattle.lines.specs.declared.Line.{Line}
 use Rattle.lines.proofs.Told.{Told}
-use Rattle.alc.specs.Lists.{every, elem}
+use Rattle.alc.specs.Lists.{every}
 use Rattle.alc.specs.Ranges.{inRange}
 use Rattle.alc.specs.Meaning.{everyBelow}
+use Rattle.alc.specs.Rules.{stepFields}
 use Rattle.alc.specs.Dossier.{saying}
 use Rattle.alc.proofs.Logic.{and-left, and-right, every-true}
-use Rattle.heading.specs.Fields.{saidFields, fieldBy}
-use Rattle.heading.proofs.FieldLaws.{firsts, seconds, thirds, as-role, as-atom, as-name, as-element, as-size, as-concept, ranges-at, in-first, in-second, in-third}
+use Rattle.heading.specs.Fields.{saidFields, fieldBy, kindsAt}
+use Rattle.heading.proofs.FieldLaws.{fields-at, ranges-of}
 
--- the letter is one of the six
+-- the kind is one of a field
 abbrev isField : ℕ → Bool
-isField k = elem k (114 ∷ 65 ∷ 110 ∷ 100 ∷ 115 ∷ 99 ∷ [])
+isField k = leb 1 k && leb k 6
 
--- a number in the range of its letter
-module _ (e d k n : ℕ) (le : e ≤ 256) (ld : d ≤ 256) (t : every (inRange e d) (fieldBy k n) ≡ true) where
-  field-small : isField k ≡ true → n < 256
-  field-small f = role (ℕ-discrete k 114)
-    where
-      concept : (k ≡ 114 → ⊥) → (k ≡ 65 → ⊥) → (k ≡ 110 → ⊥) → (k ≡ 100 → ⊥) → (k ≡ 115 → ⊥) → Dec (k ≡ 99) → n < 256
-      concept a b c g i (yes h) = omega (arith, ltb-true n e (as-concept e d k n h ∙ t))
-      concept a b c g i (no h) =
-          let z : false ≡ true = sym (rw (ne-eqb k 114 a, ne-eqb k 65 b, ne-eqb k 110 c, ne-eqb k 100 g, ne-eqb k 115 i, ne-eqb k 99 h)) ∙ f in
-          absurd (false≢true z)
+-- a number in the range of its kind
+module _ (e d n : ℕ) (le : e ≤ 256) (ld : d ≤ 256) where
+  low : (b : ℕ) → b ≤ 256 → (ltb n b && true) ≡ true → n < 256
+  low b h t = omega (arith, ltb-true n b (and-left (ltb n b) true t))
 
-      size : (k ≡ 114 → ⊥) → (k ≡ 65 → ⊥) → (k ≡ 110 → ⊥) → (k ≡ 100 → ⊥) → Dec (k ≡ 115) → n < 256
-      size a b c g (yes h) = omega (arith, leb-true n 32 (and-right (leb 1 n) (leb n 32) (as-size e d k n h ∙ t)))
-      size a b c g (no h) = concept a b c g h (ℕ-discrete k 99)
-
-      element : (k ≡ 114 → ⊥) → (k ≡ 65 → ⊥) → (k ≡ 110 → ⊥) → Dec (k ≡ 100) → n < 256
-      element a b c (yes h) = omega (arith, ltb-true n d (as-element e d k n h ∙ t))
-      element a b c (no h) = size a b c h (ℕ-discrete k 115)
-
-      name : (k ≡ 114 → ⊥) → (k ≡ 65 → ⊥) → Dec (k ≡ 110) → n < 256
-      name a b (yes h) = omega (arith, ltb-true n 64 (as-name e d k n h ∙ t))
-      name a b (no h) = element a b h (ℕ-discrete k 100)
-
-      atom : (k ≡ 114 → ⊥) → Dec (k ≡ 65) → n < 256
-      atom a (yes h) = omega (arith, ltb-true n 64 (as-atom e d k n h ∙ t))
-      atom a (no h) = name a h (ℕ-discrete k 110)
-
-      role : Dec (k ≡ 114) → n < 256
-      role (yes h) = omega (arith, ltb-true n 16 (as-role e d k n h ∙ t))
-      role (no h) = atom h (ℕ-discrete k 65)
+  field-small : (k : ℕ) → isField k ≡ true → every (inRange e d) (fieldBy k n) ≡ true → n < 256
+  unfolding fieldBy
+  field-small zero f t = absurd (omega (arith, leb-true 1 0 (and-left (leb 1 0) (leb 0 6) f)))
+  field-small (suc zero) f t = low 16 (omega arith) t
+  field-small (suc (suc zero)) f t = low 64 (omega arith) t
+  field-small (suc (suc (suc zero))) f t = low 64 (omega arith) t
+  field-small (suc (suc (suc (suc zero)))) f t = low d ld t
+  field-small (suc (suc (suc (suc (suc zero))))) f t = omega (arith, leb-true n 32 (and-right (leb 1 n) (leb n 32) (and-left (leb 1 n && leb n 32) true t)))
+  field-small (suc (suc (suc (suc (suc (suc zero)))))) f t = low e le t
+  field-small (suc (suc (suc (suc (suc (suc (suc k))))))) f t = let m = suc (suc (suc (suc (suc (suc (suc k)))))) in absurd (omega (arith, leb-true m 6 (and-right (leb 1 m) (leb m 6) f)))
 
   -- said, or not said and 0
-  either-small : (c j : ℕ) → (isField k || leb c j) ≡ true → (c ≤ j → n ≡ 0) → n < 256
-  either-small c j h z = go (isField k) refl h
+  either-small : (k c j : ℕ) → every (inRange e d) (fieldBy k n) ≡ true → (isField k || leb c j) ≡ true → (c ≤ j → n ≡ 0) → n < 256
+  either-small k c j t h z = go (isField k) refl h
     where
       go : (b : Bool) → isField k ≡ b → (b || leb c j) ≡ true → n < 256
-      go true f g = field-small f
+      go true f g = field-small k f t
       go false f g = omega (arith, z (leb-true c j g))
 
--- a word's letters say as many fields as it takes numbers: a test of all words
-lettered : List ℕ → ℕ → ℕ → Bool
-lettered fs j w = isField (getD fs w 0) || leb (rowOf w .count) j
+-- a word has as many kinds as it takes numbers: a test of all words
+filled : ℕ → ℕ → Bool
+filled j w = isField (getD (kindsAt w) j 0) || leb (rowOf w .count) j
 
-all-first : everyBelow wordCount (lettered firsts 0) ≡ true
-unfolding lettered words rowOf
-all-first = refl
-
-all-second : everyBelow wordCount (lettered seconds 1) ≡ true
-unfolding lettered words rowOf
-all-second = refl
-
-all-third : everyBelow wordCount (lettered thirds 2) ≡ true
-unfolding lettered words rowOf
-all-third = refl
+all-filled : everyBelow wordCount (λ w. filled 0 w && (filled 1 w && filled 2 w)) ≡ true
+unfolding filled kindsAt stepFields words rowOf
+all-filled = refl
 
 pub record Small (l : Line) : Type 0 where
   pub first : l .n0 < 256
@@ -84,18 +60,18 @@ pub record Small (l : Line) : Type 0 where
   pub third : l .n2 < 256
 
 pub small : (l : Line) → Told l → (e d : ℕ) → e ≤ 256 → d ≤ 256 → every (inRange e d) (saidFields (saying l)) ≡ true → Small l
-unfolding lettered
+unfolding filled
 small l t e d le ld h =
-    let g : (in-first e d l (t .known) && (in-second e d l (t .known) && in-third e d l (t .known))) ≡ true = sym (ranges-at e d l (t .known)) ∙ h in
-    let a = and-left (in-first e d l (t .known)) _ g in
-    let b = and-right (in-first e d l (t .known)) _ g in
     let w = l .word in
+    let ks = kindsAt w in
+    let g = sym (ranges-of e d (getD ks 0 0) (getD ks 1 0) (getD ks 2 0) (l .n0) (l .n1) (l .n2)) ∙ ap (every (inRange e d)) (sym (fields-at l)) ∙ h in
+    let g1 = and-right (every (inRange e d) (fieldBy (getD ks 0 0) (l .n0))) _ g in
+    let f = every-true (λ v. filled 0 v && (filled 1 v && filled 2 v)) wordCount all-filled w (t .known) in
+    let f1 = and-right (filled 0 w) _ f in
     record {
-      first = either-small e d (getD firsts w 0) (l .n0) le ld a (rowOf w .count) 0 (every-true (lettered firsts 0) wordCount all-first w (t .known)) (t .first);
-      second =
-          either-small e d (getD seconds w 0) (l .n1) le ld (and-left (in-second e d l (t .known)) (in-third e d l (t .known)) b) (rowOf w .count) 1 (every-true (lettered seconds 1) wordCount all-second w (t .known))
-          (t .second);
+      first = either-small e d (l .n0) le ld (getD ks 0 0) (rowOf w .count) 0 (and-left _ _ g) (and-left (filled 0 w) _ f) (t .first);
+      second = either-small e d (l .n1) le ld (getD ks 1 0) (rowOf w .count) 1 (and-left _ _ g1) (and-left (filled 1 w) _ f1) (t .second);
       third =
-          either-small e d (getD thirds w 0) (l .n2) le ld (and-right (in-second e d l (t .known)) (in-third e d l (t .known)) b) (rowOf w .count) 2 (every-true (lettered thirds 2) wordCount all-third w (t .known))
-          (t .third);
+          either-small e d (l .n2) le ld (getD ks 2 0) (rowOf w .count) 2 (and-right (every (inRange e d) (fieldBy (getD ks 1 0) (l .n1))) _ g1)
+          (and-right (filled 1 w) _ f1) (t .third);
     }

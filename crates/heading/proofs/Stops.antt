@@ -8,14 +8,14 @@ use mathlib.Core.List.{List, [], _∷_}
 use mathlib.Core.Logic.{_⊎_, inl, inr}
 use mathlib.Core.Path.{_≡_, refl, sym, ap, subst, _∙_}
 use lib.ListN.{length, drop}
-use Rattle.lines.specs.Text.{words, rowOf, cut, itemOf, fit, itemBy, stands, linesOf}
-use Rattle.lines.specs.Walk.{found, nextOf, readAt}
+use Rattle.lines.specs.Text.{atTable, atClaims, words, rowOf, cut, itemOf, fit, itemBy, stands, linesOf}
+use Rattle.lines.specs.Walk.{claimsFrom, stepsFrom, found, nextOf, readAt}
 use Rattle.lines.specs.declared.Line.{Line}
 use Rattle.lines.specs.declared.Item.{Item}
 use Rattle.lines.specs.declared.Item.the-variants.{Says, Wrong}
 use Rattle.lines.specs.declared.Next.{Next}
 use Rattle.lines.specs.declared.Next.the-variants.{Found, Bad, End}
-use Rattle.lines.proofs.Words.{spans, within-is, within-high}
+use Rattle.lines.proofs.Words.{spans, within-is, spanned}
 use Rattle.reading.proofs.Loop.{when-found, when-bad, when-end}
 use Rattle.alc.specs.Rows.{refusal}
 use Rattle.alc.specs.Table.{Table}
@@ -53,17 +53,17 @@ module _ (p q : ℕ) (l : Line) (a : stands q l ≡ true) where
       go (x ∷ y ∷ ps) h = item (itemOf x) (at + length x + 1) h
 
 -- the words of the table's place that are none of the table are those of the claims' place
-pub in-claims : (l : Line) → 8 ≤ l .word → stands 0 l ≡ true → stands 1 l ≡ true
+pub in-claims : (l : Line) → claimsFrom ≤ l .word → stands atTable l ≡ true → stands atClaims l ≡ true
 unfolding words rowOf
 in-claims l h a =
-    spans 1 8 13 (omega arith) refl (l .word)
-    ∙ within-is 8 13 (l .word) h (within-high 0 13 (l .word) (sym (spans 0 0 13 (omega arith) refl (l .word)) ∙ a))
+    spans atClaims claimsFrom stepsFrom (omega arith) refl (l .word)
+    ∙ within-is claimsFrom stepsFrom (l .word) h (spanned atTable 0 stepsFrom (omega arith) refl (l .word) a .1)
 
-in-table : (l : Line) → stands 1 l ≡ true → stands 0 l ≡ true
+in-table : (l : Line) → stands atClaims l ≡ true → stands atTable l ≡ true
 unfolding words rowOf
 in-table l a =
-    spans 0 0 13 (omega arith) refl (l .word)
-    ∙ within-is 0 13 (l .word) (omega arith) (within-high 8 13 (l .word) (sym (spans 1 8 13 (omega arith) refl (l .word)) ∙ a))
+    spans atTable 0 stepsFrom (omega arith) refl (l .word)
+    ∙ within-is 0 stepsFrom (l .word) (omega arith) (spanned atClaims claimsFrom stepsFrom (omega arith) refl (l .word) a .1)
 
 -- TABLE AND CLAIMS: behind the table the two parts have the same rows, and a line that passes leads to the same
 same-rows : (T : Table) (s : Said) → rows (inTable T) s ≡ rows (inClaims T []) s
@@ -96,26 +96,26 @@ module _ {text : List ℕ} (T : Table) where
   from-table : {n a m b : ℕ} {S E : State} → Through text n a S m b E → S ≡ inClaims T [] → 2 ≤ stage E → Through text n a (inTable T) m b E
   from-table none e h = absurd (omega (arith, ap (λ (Z : State). stage Z) e, h))
   from-table {n} {a} {m} {b} {S} {E} (line {next = to} {l = l} r p v) e h =
-      let r′ : readAt text a 1 ≡ Found l to = subst (λ (Z : State). readAt text a (place (Z .part)) ≡ Found l to) e r in
+      let r′ : readAt text a atClaims ≡ Found l to = subst (λ (Z : State). readAt text a (place (Z .part)) ≡ Found l to) e r in
       let p′ : refusal (rows (inTable T) (saying l)) ≡ 0 = same-refusal T (saying l) ∙ subst (λ (Z : State). refusal (rows Z (saying l)) ≡ 0) e p in
-      line (placed 1 0 l (in-table l (when-found text a 1 l to r′ .allowed)) text a to r′) p′
+      line (placed 1 0 l (in-table l (when-found text a atClaims l to r′ .allowed)) text a to r′) p′
       (subst (λ (Z : State). Through text (suc n) to Z m b E) (ap (λ (Z : State). after Z (saying l)) e ∙ sym (same-after T (saying l) p′)) v)
 
   -- a walk that leaves the table as one from the beginning of the claims, where the table has ended
-  from-claims : {n a m b : ℕ} {S E : State} → Through text n a S m b E → S ≡ inTable T → 2 ≤ stage E → TableEnd T (readAt text a 0) 0
+  from-claims : {n a m b : ℕ} {S E : State} → Through text n a S m b E → S ≡ inTable T → 2 ≤ stage E → TableEnd T (readAt text a atTable) 0
       → Through text n a (inClaims T []) m b E
   from-claims none e h d = absurd (omega (arith, ap (λ (Z : State). stage Z) e, h))
   from-claims {n} {a} {m} {b} {S} {E} (line {next = to} {l = l} r p v) e h d =
-      let r′ : readAt text a 0 ≡ Found l to = subst (λ (Z : State). readAt text a (place (Z .part)) ≡ Found l to) e r in
+      let r′ : readAt text a atTable ≡ Found l to = subst (λ (Z : State). readAt text a (place (Z .part)) ≡ Found l to) e r in
       let p′ : refusal (rows (inTable T) (saying l)) ≡ 0 = subst (λ (Z : State). refusal (rows Z (saying l)) ≡ 0) e p in
-      let w : 8 ≤ l .word = outside (readAt text a 0) 0 r′ refl d in
-      line (placed 0 1 l (in-claims l w (when-found text a 0 l to r′ .allowed)) text a to r′) (sym (same-refusal T (saying l)) ∙ p′)
+      let w : claimsFrom ≤ l .word = outside (readAt text a atTable) 0 r′ refl d in
+      line (placed 0 1 l (in-claims l w (when-found text a atTable l to r′ .allowed)) text a to r′) (sym (same-refusal T (saying l)) ∙ p′)
       (subst (λ (Z : State). Through text (suc n) to Z m b E) (ap (λ (Z : State). after Z (saying l)) e ∙ same-after T (saying l) p′) v)
     where
-      outside : (x : Next) (k : ℕ) → x ≡ Found l to → k ≡ 0 → TableEnd T x k → 8 ≤ l .word
+      outside : (x : Next) (k : ℕ) → x ≡ Found l to → k ≡ 0 → TableEnd T x k → claimsFrom ≤ l .word
       outside x k y z Parts.wrong = absurd (omega arith)
       outside x k y z (Parts.failed w q) = absurd (omega arith)
-      outside x k y z (Parts.other w) = subst (λ (j : Line). 8 ≤ j .word) (found-same y .0) w
+      outside x k y z (Parts.other w) = subst (λ (j : Line). claimsFrom ≤ j .word) (found-same y .0) w
       outside x k y z Parts.over = let c : _≡_ {A = ℕ} 0 1 = cc in absurd (omega arith)
 
 -- where the next line is none of the table, or there is none, the judge does not tell the two parts apart
@@ -127,19 +127,19 @@ same-next n T s is = go (refusal (rows (inTable T) s)) refl ∙ ap (next n (inCl
     go zero e = ap (λ (S : State). judge (suc n) S is) (same-after T s e)
     go (suc k) e = refl
 
-same-judge : (text : List ℕ) (T : Table) (n at k : ℕ) (x : Next) → readAt text at 0 ≡ x → TableEnd T x k → k ≡ 0
+same-judge : (text : List ℕ) (T : Table) (n at k : ℕ) (x : Next) → readAt text at atTable ≡ x → TableEnd T x k → k ≡ 0
     → judge n (inTable T) (linesOf (drop at text)) ≡ judge n (inClaims T []) (linesOf (drop at text))
 unfolding ending
 same-judge text T n at k x e Parts.wrong z = absurd (omega arith)
 same-judge text T n at k x e (Parts.failed w q) z = absurd (omega arith)
 same-judge text T n at k x e (Parts.other {l} {next = to} w) z =
-    let f = when-found text at 0 l to e in
-    let g = when-found text at 1 l to (placed 0 1 l (in-claims l w (f .allowed)) text at to e) in
-    unrolled text at 0 n (inTable T) refl l to f
+    let f = when-found text at atTable l to e in
+    let g = when-found text at atClaims l to (placed 0 1 l (in-claims l w (f .allowed)) text at to e) in
+    unrolled text at atTable n (inTable T) refl l to f
     ∙ same-next n T (saying l) (linesOf (drop to text))
-    ∙ sym (unrolled text at 1 n (inClaims T []) refl l to g)
+    ∙ sym (unrolled text at atClaims n (inClaims T []) refl l to g)
 same-judge text T n at k x e Parts.over z =
-    let f = when-end text at 0 e in
+    let f = when-end text at atTable e in
     judge-end n (inTable T) _ f ∙ sym (judge-end n (inClaims T []) _ f)
 
 -- A REFUSAL: the judge is refused there, and no walk goes on
@@ -160,19 +160,19 @@ module _ (text : List ℕ) (n at : ℕ) (S : State) where
     stuck = λ j next r p. let z : suc k ≡ 0 = sym q ∙ ap (λ y. refusal (rows S (saying y))) (found-same (sym e ∙ r) .0) ∙ p in omega arith;
   }
 
-table-halts : (text : List ℕ) (T : Table) (n at k : ℕ) (x : Next) → readAt text at 0 ≡ x → TableEnd T x k → (k ≡ 0 → ⊥) → Halts text n at (inTable T) k
+table-halts : (text : List ℕ) (T : Table) (n at k : ℕ) (x : Next) → readAt text at atTable ≡ x → TableEnd T x k → (k ≡ 0 → ⊥) → Halts text n at (inTable T) k
 table-halts text T n at k x e Parts.wrong h = halts-wrong text n at (inTable T) e
 table-halts text T n at k x e (Parts.failed {l} {next = to} {k = j} w q) h = halts-failed text n at (inTable T) l to j e q
 table-halts text T n at k x e (Parts.other w) h = absurd (h refl)
 table-halts text T n at k x e Parts.over h = absurd (h refl)
 
-pub claims-halts : (text : List ℕ) (T : Table) (cs : List Sided) (n at k : ℕ) (x : Next) → readAt text at 1 ≡ x → ClaimsEnd T cs x k
+pub claims-halts : (text : List ℕ) (T : Table) (cs : List Sided) (n at k : ℕ) (x : Next) → readAt text at atClaims ≡ x → ClaimsEnd T cs x k
     → Halts text n at (inClaims T cs) k
 unfolding ending
 claims-halts text T cs n at k x e Parts.wrong = halts-wrong text n at (inClaims T cs) e
 claims-halts text T cs n at k x e (Parts.failed {l} {next = to} {k = j} q) = halts-failed text n at (inClaims T cs) l to j e q
 claims-halts text T cs n at k x e Parts.over = record {
-  judged = judge-end n (inClaims T cs) _ (when-end text at 1 e);
+  judged = judge-end n (inClaims T cs) _ (when-end text at atClaims e);
   stuck = λ l to r p. let z : End ≡ Found l to = sym e ∙ r in let y : _≡_ {A = ℕ} 0 1 = cc in omega arith;
 }
 
@@ -204,7 +204,7 @@ module _ {text ks₀ xs₀ ys₀ ks xs ys : List ℕ} {r : Listed} (t : TableRea
     where
       go : Through text (r .count) (r .at) (inTable T) m c F ⊎ Through text m c F (r .count) (r .at) (inTable T)
           → Through text (r .count) (r .at) (inClaims T []) m c F
-      go (inl u) = from-claims T u refl f (subst (TableEnd T (readAt text (r .at) 0)) h (t .ends))
+      go (inl u) = from-claims T u refl f (subst (TableEnd T (readAt text (r .at) atTable)) h (t .ends))
       go (inr u) = absurd (omega (arith, through-behind u f))
 
   pub table-apart : (r .number ≡ 0 → ⊥) → {m c : ℕ} {F : State} → Through text 0 0 begin m c F → stage F ≡ 2 → ⊥

@@ -9,6 +9,7 @@ use mathlib.Core.Path.{_≡_, refl, sym, ap, ap₂, _∙_}
 use lib.Dec.{eqb, ltb}
 use lib.ListN.{length, getD}
 use Rattle.lines.specs.Text.{words, rowOf}
+use Rattle.lines.specs.Walk.{claimsFrom}
 use Rattle.lines.specs.declared.Line.{Line}
 use Rattle.lines.proofs.Told.{Told}
 use Rattle.alc.specs.Lists.{every}
@@ -16,7 +17,7 @@ use Rattle.alc.specs.Rows.{refusal}
 use Rattle.alc.specs.Ranges.{inRange}
 use Rattle.alc.specs.Table.{Entry, Table, entryOf, sameEntry, stands}
 use Rattle.alc.specs.Dossier.{concept, unread, sayings, saying}
-use Rattle.alc.specs.Shown.{kindAt, tableOf}
+use Rattle.alc.specs.Shown.{kindCount, kindAt, tableOf}
 use Rattle.alc.proofs.ShownLaws.{lineAt}
 use Rattle.alc.proofs.ListFacts.{any-more}
 use Rattle.goals.proofs.RecordLaws.{kind-same}
@@ -25,7 +26,7 @@ use Rattle.heading.specs.Fields.{saidFields}
 use Rattle.heading.specs.Parts.{entryIn, entryRows}
 use Rattle.heading.proofs.Small.{Small}
 
-pub entry-same : (k x y j u v : ℕ) → k < 8 → j < 8 → (eqb k j && (eqb x u && eqb y v)) ≡ sameEntry (entryOf (kindAt k) x y) (entryOf (kindAt j) u v)
+pub entry-same : (k x y j u v : ℕ) → k < kindCount → j < kindCount → (eqb k j && (eqb x u && eqb y v)) ≡ sameEntry (entryOf (kindAt k) x y) (entryOf (kindAt j) u v)
 entry-same k x y j u v h l = sym (and-assoc (eqb k j) (eqb x u) (eqb y v)) ∙ ap (λ b. (b && eqb x u) && eqb y v) (eqb-turn k j ∙ kind-same j k l h)
 
 -- a line more: an entry stands in the table if it is that line or stands above it
@@ -34,7 +35,7 @@ unfolding tableOf
 stands-more ks xs ys n e = rw (add-one n) (any-more (sameEntry e) (tableOf ks xs ys n) (lineAt ks xs ys n) ∙ or-comm (stands (tableOf ks xs ys n) e) (sameEntry e (lineAt ks xs ys n)))
 
 -- a line of the text as a line of the table: what it does not say is 0
-pub said-entry : (s x y z w : ℕ) → w < 8 → (rowOf w .count ≤ 0 → x ≡ 0) → (rowOf w .count ≤ 1 → y ≡ 0) → getD (sayings s x y z) w unread ≡ concept (entryOf (kindAt w) x y)
+pub said-entry : (s x y z w : ℕ) → w < claimsFrom → (rowOf w .count ≤ 0 → x ≡ 0) → (rowOf w .count ≤ 1 → y ≡ 0) → getD (sayings s x y z) w unread ≡ concept (entryOf (kindAt w) x y)
 unfolding words rowOf
 said-entry s x y z zero h f g = rw (f (omega arith), g (omega arith))
 said-entry s x y z (suc zero) h f g = rw (f (omega arith), g (omega arith))
@@ -49,7 +50,7 @@ said-entry s x y z (suc (suc (suc (suc (suc (suc (suc (suc w)))))))) h f g = abs
 pub byte : (n : ℕ) → n < 256 → n % 256 ≡ n
 byte n h = omega arith
 
-pub entry-said : (l : Line) → Told l → Small l → l .word < 8 → saying l ≡ concept (entryIn l)
+pub entry-said : (l : Line) → Told l → Small l → l .word < claimsFrom → saying l ≡ concept (entryIn l)
 entry-said l t m h =
     said-entry (l .side) (l .n0) (l .n1) (l .n2) (l .word) h (t .first) (t .second)
     ∙ ap₂ (λ a b. concept (entryOf (kindAt (l .word)) a b)) (sym (byte (l .n0) (m .first))) (sym (byte (l .n1) (m .second)))

@@ -10,7 +10,7 @@ use native.Mathlib.Numerals.{add-one}
 use lib.Dec.{eqb, leb}
 use lib.ListN.{length, getD, drop}
 use borrow.Author.Tests.{eqb-true, leb-true}
-use Rattle.lines.specs.Text.{words, rowOf, wordCount, allowed, linesOf}
+use Rattle.lines.specs.Text.{atClaims, words, rowOf, wordCount, allowed, linesOf}
 use Rattle.lines.specs.Walk.{readAt}
 use Rattle.lines.specs.declared.Line.{Line}
 use Rattle.lines.specs.declared.Next.the-variants.{Found}
@@ -92,7 +92,7 @@ tested S q p l h a = go (every-true (test S q p l) wordCount h (l .word) (allowe
     go e = rw a at e
 
 -- from the claims none leads back to the table, and from behind them each leads further: tests of all words
-pub out-of-table : (S : State) (l : Line) → allowed 1 (l .word) ≡ true → 1 ≤ stage (after S (saying l))
+pub out-of-table : (S : State) (l : Line) → allowed atClaims (l .word) ≡ true → 1 ≤ stage (after S (saying l))
 unfolding test words rowOf after
 out-of-table S l a = leb-true 1 _ (tested S claims (leb 1) l refl a)
 

@@ -1,12 +1,13 @@
 -- What the loops over the parts of a dossier hold and come to, said by the definitions of `alc`.
 -- Assumes nothing.
-use Prim.Native.Nat.{ℕ, suc, _≤_, _<_, _%_}
-use mathlib.Core.Bool.{true, not, cond}
-use mathlib.Core.List.{List, [], _∷_}
+use Prim.Native.Nat.{ℕ, suc, _-_, _≤_, _<_, _%_}
+use mathlib.Core.Bool.{true, not}
+use mathlib.Core.List.{List, [], _∷_, map}
 use mathlib.Core.Path.{_≡_}
-use lib.Dec.{eqb, ltb}
+use lib.Dec.{ltb}
 use lib.ListN.{length, getD}
-use Rattle.lines.specs.Walk.{readAt}
+use Rattle.lines.specs.Text.{atTable, atClaims}
+use Rattle.lines.specs.Walk.{claimsFrom, readAt}
 use Rattle.lines.specs.declared.Line.{Line}
 use Rattle.lines.specs.declared.Next.{Next}
 use Rattle.lines.specs.declared.Next.the-variants.{Found, Bad, End}
@@ -14,10 +15,11 @@ use Rattle.alc.specs.Lists.{All, every}
 use Rattle.alc.specs.Rows.{Row, row, refusal}
 use Rattle.alc.specs.Ranges.{inRange}
 use Rattle.alc.specs.Table.{Table, Entry, entryOf, stands, entryFields}
-use Rattle.alc.specs.Claims.{Claim, is, sub, link, Sided, left, right, Goal, claimFields}
+use Rattle.alc.specs.Claims.{Claim, is, Sided, Goal, claimFields}
 use Rattle.alc.specs.Claims as Claims
-use Rattle.alc.specs.Dossier.{saying}
-use Rattle.alc.specs.Shown.{kindAt, tableOf, Shows}
+use Rattle.alc.specs.Dossier as Dossier
+use Rattle.alc.specs.Dossier.{sided, saying}
+use Rattle.alc.specs.Shown.{kindCount, kindAt, tableOf, Shows}
 use Rattle.alc.specs.Verdict.{State, table, claims, steps, start, place, begin, rows, after}
 use Rattle.heading.specs.declared.Listed.{Listed}
 use Rattle.heading.specs.declared.Heading.{Heading}
@@ -42,7 +44,7 @@ inClaims T cs = record { part = claims; table = T; claims = cs; steps = 0; goals
 -- the columns hold n lines, each of a kind and with its fields in the range of its own number
 pub record Columns (ks xs ys : List ℕ) (n : ℕ) : Type 0 where
   pub few : n ≤ 256
-  pub kinds : (i : ℕ) → i < n → getD ks i 0 < 8
+  pub kinds : (i : ℕ) → i < n → getD ks i 0 < kindCount
   pub ranges : (i : ℕ) → i < n → every (inRange i 0) (entryFields (entryOf (kindAt (getD ks i 0)) (getD xs i 0) (getD ys i 0))) ≡ true
 
 -- the lines from a position on pass all their rows, one after the other. Before them n lines had been read, up to the position `at`, and said S;
@@ -56,8 +58,8 @@ pub data Through (text : List ℕ) : ℕ → ℕ → State → ℕ → ℕ → S
 -- is none of the table, or no line
 pub data TableEnd (T : Table) : Next → ℕ → Type 0 where
   wrong : TableEnd T Bad 2
-  failed : {l : Line} {next k : ℕ} → l .word < 8 → refusal (rows (inTable T) (saying l)) ≡ suc k → TableEnd T (Found l next) (suc k)
-  other : {l : Line} {next : ℕ} → 8 ≤ l .word → TableEnd T (Found l next) 0
+  failed : {l : Line} {next k : ℕ} → l .word < claimsFrom → refusal (rows (inTable T) (saying l)) ≡ suc k → TableEnd T (Found l next) (suc k)
+  other : {l : Line} {next : ℕ} → claimsFrom ≤ l .word → TableEnd T (Found l next) 0
   over : TableEnd T End 0
 
 -- three columns hold at place i what three others do
@@ -74,18 +76,19 @@ pub record TableRead (text ks₀ xs₀ ys₀ ks xs ys : List ℕ) (r : Listed) :
   pub columns : Columns ks xs ys (r .count)
   pub kept : Kept (r .count) ks₀ xs₀ ys₀ ks xs ys
   pub read : Through text 0 0 begin (r .count) (r .at) (inTable (tableOf ks xs ys (r .count)))
-  pub ends : TableEnd (tableOf ks xs ys (r .count)) (readAt text (r .at) 0) (r .number)
+  pub ends : TableEnd (tableOf ks xs ys (r .count)) (readAt text (r .at) atTable) (r .number)
+
+-- the claim that a word says with these numbers
+abbrev pub claimBy : ℕ → ℕ → ℕ → ℕ → Claim
+claimBy w x y z = getD (map (λ r. r .said) (Dossier.claims x y z)) (w - claimsFrom) (is x y)
 
 -- the claim that a line of the text is
 abbrev pub claimIn : Line → Claim
-claimIn l =
-    cond (eqb (l .word) 8) (is (l .n0 % 256) (l .n1 % 256))
-    (cond (eqb (l .word) 9) (sub (l .n0 % 256) (l .n1 % 256))
-    (link (l .n0 % 256) (l .n1 % 256) (l .n2 % 256)))
+claimIn l = claimBy (l .word) (l .n0 % 256) (l .n1 % 256) (l .n2 % 256)
 
 -- the same on its side
 abbrev pub sidedIn : Line → Sided
-sidedIn l = cond (eqb (l .side) 1) (left (claimIn l)) (right (claimIn l))
+sidedIn l = sided (l .side) (claimIn l)
 
 -- the rows of a claim behind n others, with so many entries in the table
 unfoldable pub claimRows : ℕ → ℕ → Line → List Row
@@ -105,11 +108,11 @@ pub data ClaimsEnd (T : Table) (cs : List Sided) : Next → ℕ → Type 0 where
   failed : {l : Line} {next k : ℕ} → refusal (rows (inClaims T cs) (saying l)) ≡ suc k → ClaimsEnd T cs (Found l next) (suc k)
   over : ClaimsEnd T cs End 12
 
--- the claims cs from a position on, behind a table T, lead to `proof`, section 1, or to `model`, section 2; or they are refused, by number
+-- the claims cs from a position on, behind a table T, lead to `proof`, which has the number 1, or to `model`, which has 2; or they are refused, by number
 pub data ClaimsLead (text : List ℕ) (T : Table) (begun : ℕ) (cs : List Sided) (lines at : ℕ) : ℕ → ℕ → Type 0 where
   proof : Through text (length T) begun (inClaims T []) lines at (inSteps T cs 0 (cs ∷ [])) → ClaimsLead text T begun cs lines at 0 1
   model : Through text (length T) begun (inClaims T []) lines at (atStart T cs) → ClaimsLead text T begun cs lines at 0 2
-  refused : {k : ℕ} → Through text (length T) begun (inClaims T []) lines at (inClaims T cs) → ClaimsEnd T cs (readAt text at 1) k → ClaimsLead text T begun cs lines at k 0
+  refused : {k : ℕ} → Through text (length T) begun (inClaims T []) lines at (inClaims T cs) → ClaimsEnd T cs (readAt text at atClaims) k → ClaimsLead text T begun cs lines at k 0
 
 -- what the reading of the claims comes to, from a position on behind a table T
 pub record ClaimsRead (text : List ℕ) (T : Table) (begun : ℕ) (r : Heading) : Type 0 where

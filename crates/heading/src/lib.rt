@@ -1,35 +1,31 @@
-// The heading of a dossier, its table and its claims: what reading each of them comes to, and the range test of every line, also of those
-// behind the heading. `tables` and `claims` read the two parts.
+// The parts of a dossier: whether the numbers of a line are in their ranges, whichever part it stands in, and what reading the table and the claims
+// comes to. `tables`, `claims`, `steps` and `facts` read the parts.
 use alc::Goal;
 use lines::Line;
 ghost use mathlib.Core.Path.{_≡_};
-ghost use Prim.Native.Nat.{ℕ, _≤_, _<_};
+ghost use Prim.Native.Nat.{_<_};
 ghost use Rattle.lines.specs.Text.{wordCount};
 ghost use mathlib.Core.Bool.{_&&_};
-ghost use lib.Dec.{ltb, leb};
+ghost use lib.Dec.{leb};
 ghost use Rattle.alc.specs.Lists.{every};
 ghost use Rattle.alc.specs.Ranges.{inRange};
 ghost use Rattle.alc.specs.Dossier.{saying};
-ghost use Rattle.heading.specs.Fields.{saidFields};
+ghost use Rattle.heading.specs.Fields.{saidFields, fieldBy, fieldsBy};
 
-// A bound that no number of a line reaches.
-const FREE: usize = 65536;
+// What a number of a line is a number of, 0 where it is not said.
+const NONE: u8 = 0;
 
-// Whether the numbers of a line are below these bounds.
-fn below(l: Line, a: usize, b: usize, c: usize) -> bool
-    ensures { λ r. ⌜ r ≡ (ltb (l .n0) a && (ltb (l .n1) b && ltb (l .n2) c)) ⌝ }
-{
-    let x = l.n0 as usize;
-    if x >= a {
-        return false;
-    }
-    let y = l.n1 as usize;
-    if y >= b {
-        return false;
-    }
-    let z = l.n2 as usize;
-    z < c
-}
+const ROLE: u8 = 1;
+
+const ATOM: u8 = 2;
+
+const NAME: u8 = 3;
+
+const ELEMENT: u8 = 4;
+
+const SIZE: u8 = 5;
+
+const CONCEPT: u8 = 6;
 
 // Whether a size is from 1 to 32.
 fn in_size(n: u16) -> bool
@@ -41,73 +37,61 @@ fn in_size(n: u16) -> bool
     n <= 32
 }
 
-// Whether every field of a line of the table, of a claim, of `proof` or of `model` is in its range: 16 is the bound of a role, 64 that of an
-// atom or a name. Words go by their numbers: 2 `atom`, 3 `not`, 4 `and`, 5 `or`, 6 `some`, 7 `all`, 8 `is`, 9 `sub`, 10 `link`.
-fn in_head(l: Line, entries: usize) -> bool
-    requires { ⌜ l .word < 13 ⌝ }
-    ensures { λ r. ⌜ ((d : ℕ) → r ≡ every (inRange entries d) (saidFields (saying l))) ⌝ }
+// Whether a number is in the range of what it is a number of, with so many entries in the table and so many elements.
+fn in_range(kind: u8, n: u16, entries: usize, elements: u8) -> bool
+    ensures { λ r. ⌜ r ≡ every (inRange entries elements) (fieldBy kind n) ⌝ }
 {
-    let w = l.word;
-    match w {
-        2 => below(l, 64, FREE, FREE),
-        3 => below(l, entries, FREE, FREE),
-        4 => below(l, entries, entries, FREE),
-        5 => below(l, entries, entries, FREE),
-        6 => below(l, 16, entries, FREE),
-        7 => below(l, 16, entries, FREE),
-        8 => below(l, 64, entries, FREE),
-        9 => below(l, entries, entries, FREE),
-        10 => below(l, 16, 64, 64),
+    match kind {
+        ROLE => n < 16,
+        ATOM => n < 64,
+        NAME => n < 64,
+        ELEMENT => n < elements as u16,
+        SIZE => in_size(n),
+        CONCEPT => (n as usize) < entries,
         _ => true,
     }
 }
 
-// The same of a step: most have a name and a concept. 14 is `id-sub`, 15 `id-link`, 26 `sub-l`, 27 `sub-r`, 28 to 31 are `some-l` to `all-r`.
-fn in_step(l: Line, entries: usize) -> bool
-    requires { ⌜ (13 ≤ l .word) × (l .word < 32) ⌝ }
-    ensures { λ r. ⌜ ((d : ℕ) → r ≡ every (inRange entries d) (saidFields (saying l))) ⌝ }
+// The same of the three numbers of a line.
+fn in_ranges(l: Line, first: u8, second: u8, third: u8, entries: usize, elements: u8) -> bool
+    ensures { λ r. ⌜ r ≡ every (inRange entries elements) (fieldsBy first second third (l .n0) (l .n1) (l .n2)) ⌝ }
 {
-    let w = l.word;
-    match w {
-        14 => below(l, entries, entries, FREE),
-        15 => below(l, 16, 64, 64),
-        26 => below(l, 64, entries, entries),
-        27 => below(l, entries, entries, 64),
-        28 => below(l, 64, entries, 64),
-        29 => below(l, 64, entries, 64),
-        30 => below(l, 64, entries, 64),
-        31 => below(l, 64, entries, 64),
-        _ => below(l, 64, entries, FREE),
+    if !in_range(first, l.n0, entries, elements) {
+        return false;
     }
+    if !in_range(second, l.n1, entries, elements) {
+        return false;
+    }
+    in_range(third, l.n2, entries, elements)
 }
 
-// The same of a line of a model: 32 is `size`, 33 `name`, 34 `has`, 35 `edge`.
-fn in_model(l: Line, elements: usize) -> bool
-    requires { ⌜ (32 ≤ l .word) × (l .word < wordCount) ⌝ }
-    ensures { λ r. ⌜ ((e : ℕ) → r ≡ every (inRange e elements) (saidFields (saying l))) ⌝ }
-{
-    let w = l.word;
-    match w {
-        32 => in_size(l.n0),
-        33 => below(l, 64, elements, FREE),
-        34 => below(l, 64, elements, FREE),
-        _ => below(l, 16, elements, elements),
-    }
-}
-
-// Whether every field of a line is in its range, with so many entries in the table and so many elements.
-pub fn ranged(l: Line, entries: usize, elements: u8) -> bool
+// Whether every field of a line is in its range, with n entries in the table and m elements: what the numbers of each word are numbers of. Words that
+// follow one another stand in arms of their own, since of a run of them the compiler makes further tests.
+pub fn ranged(l: Line, n: usize, m: u8) -> bool
     requires { ⌜ l .word < wordCount ⌝ }
-    ensures { λ r. ⌜ r ≡ every (inRange entries elements) (saidFields (saying l)) ⌝ }
+    ensures { λ r. ⌜ r ≡ every (inRange n m) (saidFields (saying l)) ⌝ }
 {
     let w = l.word;
-    if w < 13 {
-        return in_head(l, entries);
+    match w {
+        lines::TOP | lines::PROOF => in_ranges(l, NONE, NONE, NONE, n, m),
+        lines::BOT | lines::MODEL => in_ranges(l, NONE, NONE, NONE, n, m),
+        lines::ATOM => in_ranges(l, ATOM, NONE, NONE, n, m),
+        lines::NOT => in_ranges(l, CONCEPT, NONE, NONE, n, m),
+        lines::AND | lines::SUB | lines::ID_SUB => in_ranges(l, CONCEPT, CONCEPT, NONE, n, m),
+        lines::OR => in_ranges(l, CONCEPT, CONCEPT, NONE, n, m),
+        lines::SOME => in_ranges(l, ROLE, CONCEPT, NONE, n, m),
+        lines::ALL => in_ranges(l, ROLE, CONCEPT, NONE, n, m),
+        lines::LINK | lines::ID_LINK => in_ranges(l, ROLE, NAME, NAME, n, m),
+        lines::SUB_L => in_ranges(l, NAME, CONCEPT, CONCEPT, n, m),
+        lines::SUB_R => in_ranges(l, CONCEPT, CONCEPT, NAME, n, m),
+        lines::SOME_L | lines::ALL_L => in_ranges(l, NAME, CONCEPT, NAME, n, m),
+        lines::SOME_R | lines::ALL_R => in_ranges(l, NAME, CONCEPT, NAME, n, m),
+        lines::SIZE => in_ranges(l, SIZE, NONE, NONE, n, m),
+        lines::NAME => in_ranges(l, NAME, ELEMENT, NONE, n, m),
+        lines::HAS => in_ranges(l, ATOM, ELEMENT, NONE, n, m),
+        lines::EDGE => in_ranges(l, ROLE, ELEMENT, ELEMENT, n, m),
+        _ => in_ranges(l, NAME, CONCEPT, NONE, n, m),
     }
-    if w < 32 {
-        return in_step(l, entries);
-    }
-    in_model(l, elements as usize)
 }
 
 // What reading the table came to: the refusal's number or 0, the position of the next line, and how many lines the table has.
@@ -117,8 +101,14 @@ pub struct Listed {
     pub count: usize,
 }
 
-// What reading the claims came to: the refusal's number or 0, whether `proof` (1) or `model` (2) came, the position of the next line, how
-// many lines were read, and the claims.
+// What ended the claims: `proof`,
+pub const PROVES: u8 = 1;
+
+// or `model`.
+pub const MODELS: u8 = 2;
+
+// What reading the claims came to: the refusal's number or 0, what ended them (PROVES, MODELS, or 0 where they are refused), the position of the next
+// line, how many lines were read, and the claims.
 pub struct Heading {
     pub number: u8,
     pub section: u8,

@@ -77,7 +77,7 @@ pub fn opened(text: &[u8], records: usize) -> Opening
         return decided(Answer::Refused(h.number, h.lines + 1));
     }
     let claims = h.claims;
-    if h.section != 1 {
+    if h.section != heading::PROVES {
         return decided(facts::judge_model(
             text,
             h.at,

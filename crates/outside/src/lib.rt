@@ -7,8 +7,15 @@ ghost use Rattle.alc.specs.Shown.{answered, blank};
 ghost use Rattle.alc.specs.Verdict.{verdict};
 ghost use Rattle.outside.specs.Told.{packed, packedBy};
 
-// Judges a text in a room that the caller lends, which is blank afterwards. The verdict comes back as one number: 8 bits of the word (0 `proved`,
-// 1 `refuted`, 2 `refused`), 8 of the number and 32 of the line, from the lowest up.
+// The words of a verdict, as a caller meets them.
+const PROVED: u8 = 0;
+
+const REFUTED: u8 = 1;
+
+const REFUSED: u8 = 2;
+
+// Judges a text in a room that the caller lends, which is blank afterwards. The verdict comes back as one number: 8 bits of the word, 8 of the number
+// and 32 of the line, from the lowest up.
 #[no_mangle]
 pub extern "C" fn outside_judge(room: &mut [Claim], text: &[u8]) -> u64
     ensures answer { λ r. ⌜ r ≡ packed (verdict (length (now (room .entry))) (now (text .entry))) ⌝ }
@@ -23,9 +30,9 @@ fn pack_answer(answer: Answer) -> u64
     ensures { λ r. ⌜ r ≡ packed (answered answer) ⌝ }
 {
     match answer {
-        Answer::Proved(n) => pack(0, 0, n),
-        Answer::Refuted(n) => pack(1, 0, n),
-        Answer::Refused(k, n) => pack(2, k, n),
+        Answer::Proved(n) => pack(PROVED, 0, n),
+        Answer::Refuted(n) => pack(REFUTED, 0, n),
+        Answer::Refused(k, n) => pack(REFUSED, k, n),
     }
 }
 

@@ -3,8 +3,11 @@
 // A line is read in one pass over its bytes, plus the comparison of its word. No text is copied.
 use digits::holds;
 use digits::parts;
+use lines::LEFT;
 use lines::Line;
+use lines::NO_SIDE;
 use lines::Next;
+use lines::RIGHT;
 use lines::WORDS;
 use lines::count;
 use lines::same;
@@ -38,17 +41,17 @@ fn field_end(text: &[u8], at: usize) -> usize
     i
 }
 
-// The side that a first field says: 1 for left, 2 for right, 0 for any other.
+// The side that a first field says.
 fn side(f: &[u8]) -> u8
     ensures { λ r. ⌜ r ≡ sideOf (now (f .entry)) ⌝ }
 {
     if same(f, b"left") {
-        return 1;
+        return LEFT;
     }
     if same(f, b"right") {
-        return 2;
+        return RIGHT;
     }
-    0
+    NO_SIDE
 }
 
 // Where the word of the line at a position stands, whose first field ends at e and says the side s: it is that field, or the one behind it,
@@ -57,7 +60,7 @@ fn word_part(text: &[u8], at: usize, e: usize, s: u8) -> Part
     requires { ⌜ (at < length (now text)) × (e ≡ at + length (fieldOf (drop at (now text)))) × (s ≡ sideOf (fieldOf (drop at (now text)))) ⌝ }
     ensures { λ r. ⌜ WordAt (now (text .entry)) at s r ⌝ }
 {
-    if s == 0 {
+    if s == NO_SIDE {
         return Part { from: at, to: e };
     }
     if !holds(text, e, 9) {
@@ -82,7 +85,7 @@ fn worded(text: &[u8], a: usize, e: usize, s: u8, place: u8) -> Next
     };
     Next::Found(
         Line {
-            word: w as u8,
+            word: w,
             side: s,
             n0: n0,
             n1: n1,

@@ -3,6 +3,7 @@
 use alc::Concept;
 use alc::Goal;
 use alc::Name;
+use goals::CLOSES;
 use goals::Turn;
 ghost use mathlib.Core.Path.{_≡_};
 ghost use Prim.Native.Nat.{_<_, _≤_};
@@ -25,10 +26,18 @@ pub struct State {
     pub number: u8,
 }
 
+// What a line asks of the room: nothing,
+pub const NOTHING: u8 = 0;
+
+// that the second premise, of `count` claims, is stored from `base` on,
+pub const STORES: u8 = 1;
+
+// or that the goal of `count` claims there becomes the current one.
+pub const FETCHES: u8 = 2;
+
 // What a line does: what it asks of the room, its turn at the current goal, and the numbers of the state behind it. Like a turn it holds no goal.
 pub struct Act {
-    // nothing is asked (0), or that the second premise, of `count` claims, is stored from `base` on (1), or that the goal of `count` claims there
-    // becomes the current one (2)
+    // NOTHING, STORES or FETCHES
     pub kind: u8,
     pub base: usize,
     pub count: u8,
@@ -61,13 +70,13 @@ pub fn begun(claims: Goal, at: usize, lines: usize) -> State
 fn idle(n: usize) -> Turn
     ensures { λ r. ⌜ r ≡ idleOf n ⌝ }
 {
-    let none = alc::is(0, Name(0), Concept(0));
+    let none = alc::is(lines::NO_SIDE, Name(0), Concept(0));
     Turn {
         number: 0,
         opens: 0,
         at: n,
         kept: n,
-        leaves: 0,
+        leaves: CLOSES,
         first: none,
         second: none,
     }
@@ -78,7 +87,7 @@ pub fn stopped(s: State, number: u8, line: usize) -> Act
     ensures { λ r. ⌜ r ≡ stoppedOf s number line ⌝ }
 {
     Act {
-        kind: 0,
+        kind: NOTHING,
         base: 0,
         count: 0,
         turn: idle(s.goal.count),
@@ -126,7 +135,7 @@ pub fn parted(s: State, t: Turn, line: usize, at: usize) -> Act
 {
     let waiting = s.open - 1;
     let count = (t.kept + 1) as u8;
-    passed(s, t, line, at, 1, waiting * 64, count, s.open + 1)
+    passed(s, t, line, at, STORES, waiting * 64, count, s.open + 1)
 }
 
 // The goal closes: the one put aside last becomes current, where one waits.
@@ -136,11 +145,11 @@ pub fn closed(s: State, t: Turn, line: usize, at: usize) -> Act
 {
     let waiting = s.open - 1;
     if waiting == 0 {
-        return passed(s, t, line, at, 0, 0, 0, waiting);
+        return passed(s, t, line, at, NOTHING, 0, 0, waiting);
     }
     let last = waiting - 1;
     let counts = s.counts;
-    passed(s, t, line, at, 2, last * 64, counts[last], waiting)
+    passed(s, t, line, at, FETCHES, last * 64, counts[last], waiting)
 }
 
 // The state behind the act a at the state s, with its current goal. Where a goal is put aside its place has its count.
@@ -149,7 +158,7 @@ pub fn behind(s: State, a: Act, goal: Goal) -> State
     ensures { λ r. ⌜ r ≡ afterOf s a goal ⌝ }
 {
     let mut counts = s.counts;
-    if a.kind == 1 {
+    if a.kind == STORES {
         let waiting = s.open - 1;
         counts[waiting] = a.count;
     }

@@ -10,8 +10,8 @@ use mathlib.Core.Path.{_≡_, refl, sym, ap, ap₂, subst, _∙_}
 use lib.ListN.{length, getD, set, drop, length-set}
 use lib.Seq.{getD-set-same, getD-set-other}
 use borrow.Author.Tests.{lt-ltb, le-ltb, eq-eqb, ne-eqb}
-use Rattle.lines.specs.Text.{linesOf}
-use Rattle.lines.specs.Walk.{readAt}
+use Rattle.lines.specs.Text.{atSteps, linesOf}
+use Rattle.lines.specs.Walk.{stepsFrom, sizeFrom, readAt}
 use Rattle.lines.specs.declared.Line.{Line}
 use Rattle.lines.specs.declared.Next.{Next as Read}
 use Rattle.lines.specs.declared.Next.the-variants.{Found, Bad, End}
@@ -94,8 +94,8 @@ module _ (text ks xs ys : List ℕ) (entries : ℕ) (s : State) (v : Ready text 
   line-more : (k : ℕ) → refused k (suc (s .lines)) ≡ refused k (s .lines + 1)
   line-more k = ap (refused k) (sym (add-one (s .lines)))
 
-  stops-bad : Line-bad text (s .at) 2 → Acted text ks xs ys entries s (stoppedOf s 2 (s .lines + 1))
-  stops-bad b = stops 2 (s .lines + 1) (λ cs gs o c. sym (judge-bad text (s .at) 2 (s .lines) (inSteps T cs (s .steps) gs) refl b ∙ line-more 2))
+  stops-bad : Line-bad text (s .at) atSteps → Acted text ks xs ys entries s (stoppedOf s 2 (s .lines + 1))
+  stops-bad b = stops 2 (s .lines + 1) (λ cs gs o c. sym (judge-bad text (s .at) atSteps (s .lines) (inSteps T cs (s .steps) gs) refl b ∙ line-more 2))
 
   -- at the end
   ended : (cs : List Sided) (gs : List Goal) → linesOf (drop (s .at) text) ≡ [] → whole cs gs ≡ cond (isEmpty gs) (proved (s .lines)) (refused 12 (suc (s .lines)))
@@ -117,12 +117,12 @@ module _ (text ks xs ys : List ℕ) (entries : ℕ) (s : State) (v : Ready text 
       go (x ∷ hs) q = absurd (omega arith)
 
   -- at a line
-  module _ (l : Line) (to : ℕ) (f : Line-found text (s .at) 2 l to) where
+  module _ (l : Line) (to : ℕ) (f : Line-found text (s .at) atSteps l to) where
     t : Told l
     t = told (drop (s .at) text) l (linesOf (drop to text)) (f .lines)
 
-    pub word : (13 ≤ l .word) × (l .word < 32)
-    word = step-word l t (f .allowed)
+    pub word : (stepsFrom ≤ l .word) × (l .word < sizeFrom)
+    word = step-word l (f .allowed)
 
     long-table : length T ≡ entries
     long-table = table-length ks xs ys entries
@@ -131,7 +131,7 @@ module _ (text ks xs ys : List ℕ) (entries : ℕ) (s : State) (v : Ready text 
         → Acted text ks xs ys entries s (stoppedOf s k (s .lines + 1))
     refuses k z r =
         stops k (s .lines + 1)
-        (λ cs gs o c. refused-by k (s .lines + 1) z ∙ sym (judge-refused text (s .at) 2 (s .lines) (inSteps T cs (s .steps) gs) refl l to f k (r cs gs o c) z ∙ line-more k))
+        (λ cs gs o c. refused-by k (s .lines + 1) z ∙ sym (judge-refused text (s .at) atSteps (s .lines) (inSteps T cs (s .steps) gs) refl l to f k (r cs gs o c) z ∙ line-more k))
 
     stops-5 : 1024 ≤ s .steps → Acted text ks xs ys entries s (stoppedOf s 5 (s .lines + 1))
     stops-5 h =
@@ -179,7 +179,7 @@ module _ (text ks xs ys : List ℕ) (entries : ℕ) (s : State) (v : Ready text 
           passes : (cs : List Sided) (x : Goal) (hs : List Goal) → s .open ≡ suc (length hs) → Shows (s .goal) x
               → whole cs (x ∷ hs) ≡ behind-line cs (premises (plan T (stepIn l)) x ++ hs)
           passes cs x hs q c =
-              judge-next text (s .at) 2 (s .lines) (inSteps T cs (s .steps) (x ∷ hs)) refl l to f (rows-here cs x hs q c ∙ z)
+              judge-next text (s .at) atSteps (s .lines) (inSteps T cs (s .steps) (x ∷ hs)) refl l to f (rows-here cs x hs q c ∙ z)
               ∙ ap (λ S. judge (suc (s .lines)) S (linesOf (drop to text))) (after-turn T entries long-table (v .columns .few) l t (word .0) (word .1) cs (s .steps) x hs (length hs) (sym (turned x hs q c) ∙ z))
               ∙ ap₂ (λ k j. judge k (inSteps T cs j (premises (plan T (stepIn l)) x ++ hs)) (linesOf (drop to text))) (sym (add-one (s .lines))) (sym (add-one (s .steps)))
 
@@ -346,13 +346,13 @@ module _ (text ks xs ys : List ℕ) (entries : ℕ) (s : State) (v : Ready text 
         goes-by (suc k) n z h = stops-turn k z
 
   -- the act at the state s leads to the state behind it
-  pub acted : (a : Act) → ActAt T entries s (readAt text (s .at) 2) a → Acted text ks xs ys entries s a
-  acted a d = go (readAt text (s .at) 2) refl a d
+  pub acted : (a : Act) → ActAt T entries s (readAt text (s .at) atSteps) a → Acted text ks xs ys entries s a
+  acted a d = go (readAt text (s .at) atSteps) refl a d
     where
-      go : (n : Read) → readAt text (s .at) 2 ≡ n → (b : Act) → ActAt T entries s n b → Acted text ks xs ys entries s b
-      go Bad e _ Acting.bad = stops-bad (when-bad text (s .at) 2 e)
-      go End e _ (Acting.short h) = stops-open (when-end text (s .at) 2 e) h
-      go End e _ (Acting.done h) = stops-proved (when-end text (s .at) 2 e) h
-      go (Found l to) e _ (Acting.many h) = stops-5 l to (when-found text (s .at) 2 l to e) h
-      go (Found l to) e _ (Acting.late r h) = stops-9 l to (when-found text (s .at) 2 l to e) r h
-      go (Found l to) e _ (Acting.turns u r h w) = goes-by l to (when-found text (s .at) 2 l to e) r (λ (z : s .open ≡ 0). omega (arith, z, h)) u w (u .number) (u .opens) refl refl
+      go : (n : Read) → readAt text (s .at) atSteps ≡ n → (b : Act) → ActAt T entries s n b → Acted text ks xs ys entries s b
+      go Bad e _ Acting.bad = stops-bad (when-bad text (s .at) atSteps e)
+      go End e _ (Acting.short h) = stops-open (when-end text (s .at) atSteps e) h
+      go End e _ (Acting.done h) = stops-proved (when-end text (s .at) atSteps e) h
+      go (Found l to) e _ (Acting.many h) = stops-5 l to (when-found text (s .at) atSteps l to e) h
+      go (Found l to) e _ (Acting.late r h) = stops-9 l to (when-found text (s .at) atSteps l to e) r h
+      go (Found l to) e _ (Acting.turns u r h w) = goes-by l to (when-found text (s .at) atSteps l to e) r (λ (z : s .open ≡ 0). omega (arith, z, h)) u w (u .number) (u .opens) refl refl

@@ -1,6 +1,6 @@
 -- What one line does at the current goal: its ranges, then the rows of its rule, and its premises where it passes all.
 -- Assumes nothing.
-use Prim.Native.Nat.{ℕ, _+_, _-_, _≤_, _%_}
+use Prim.Native.Nat.{ℕ, _+_, _≤_, _%_}
 use mathlib.Core.List.{[], _∷_}
 use mathlib.Core.Path.{_≡_}
 use Rattle.lines.specs.declared.Line.{Line}
@@ -16,9 +16,9 @@ use Rattle.goals.specs.declared.Turn.{Turn}
 use Rattle.goals.specs.Records.{stepOf, ruling, Makes, Turns}
 use Rattle.heading.specs.Fields.{saidFields}
 
--- the step that a line of the text is: the words of the steps begin at 13
+-- the step that a line of the text is
 abbrev pub stepIn : Line → Step
-stepIn l = stepOf (l .word - 13) (l .n0 % 256) (l .n1 % 256) (l .n2 % 256)
+stepIn l = stepOf (l .word) (l .n0 % 256) (l .n1 % 256) (l .n2 % 256)
 
 -- the row of a line that comes before those of its rule: its ranges, with so many entries in the table
 unfoldable pub rangeRow : ℕ → Line → Row

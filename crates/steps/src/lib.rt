@@ -3,20 +3,23 @@
 use alc::Concept;
 use alc::Goal;
 use alc::Name;
+use alc::kinds;
+use goals::CLOSES;
 use goals::Entry;
 use goals::Step;
 use goals::Turn;
-use lines::ID;
 use lines::IN_STEPS;
 use lines::Line;
 use lines::Next;
 use states::Act;
+use states::NOTHING;
 use states::State;
 ghost use mathlib.Core.Path.{_≡_};
-ghost use Prim.Native.Nat.{_-_, _<_, _≤_, _%_};
-ghost use Rattle.lines.specs.Walk.{readAt};
+ghost use Prim.Native.Nat.{_<_, _≤_, _%_};
+ghost use Rattle.lines.specs.Text.{atSteps};
+ghost use Rattle.lines.specs.Walk.{stepsFrom, sizeFrom, readAt};
 ghost use Rattle.alc.specs.Table.{entry, entryOf};
-ghost use Rattle.alc.specs.Shown.{kindAt, tableOf};
+ghost use Rattle.alc.specs.Shown.{kindCount, kindAt, tableOf};
 ghost use Rattle.heading.specs.Parts.{Columns};
 ghost use Rattle.steps.specs.Turning.{TurnAt};
 ghost use Rattle.steps.specs.Acting.{Fits, Ready, ActAt};
@@ -24,11 +27,11 @@ ghost use Rattle.steps.specs.Acting.{Fits, Ready, ActAt};
 // The entry of number i in a table of so many, and `top` past its end: the second field of `id-link` is a name, which no rule looks up.
 fn entry_at(kinds: &[u8], firsts: &[u8], seconds: &[u8], entries: usize, i: usize) -> Entry
     requires { ⌜ Columns (now kinds) (now firsts) (now seconds) entries × Fits (now kinds) (now firsts) (now seconds) entries ⌝ }
-    ensures { λ r. ⌜ (entry (tableOf (now (kinds .entry)) (now (firsts .entry)) (now (seconds .entry)) entries) i ≡ entryOf (kindAt (r .kind)) (r .x) (r .y)) × (r .kind < 8) ⌝ }
+    ensures { λ r. ⌜ (entry (tableOf (now (kinds .entry)) (now (firsts .entry)) (now (seconds .entry)) entries) i ≡ entryOf (kindAt (r .kind)) (r .x) (r .y)) × (r .kind < kindCount) ⌝ }
 {
     if i >= entries {
         return Entry {
-            kind: 0,
+            kind: kinds::TOP,
             x: 0,
             y: 0,
         };
@@ -42,11 +45,10 @@ fn entry_at(kinds: &[u8], firsts: &[u8], seconds: &[u8], entries: usize, i: usiz
 
 // The step that a line of the text is.
 fn made_step(l: Line) -> Step
-    requires { ⌜ 13 ≤ l .word ⌝ }
-    ensures { λ r. ⌜ r ≡ record { rule = l .word - 13; x = l .n0 % 256; y = l .n1 % 256; z = l .n2 % 256 } ⌝ }
+    ensures { λ r. ⌜ r ≡ record { word = l .word; x = l .n0 % 256; y = l .n1 % 256; z = l .n2 % 256 } ⌝ }
 {
     Step {
-        rule: l.word - ID,
+        word: l.word,
         x: (l.n0 % 256) as u8,
         y: (l.n1 % 256) as u8,
         z: (l.n2 % 256) as u8,
@@ -63,17 +65,17 @@ fn turn_at(
     g: Goal,
     waiting: usize,
 ) -> Turn
-    requires { ⌜ Columns (now kinds) (now firsts) (now seconds) entries × Fits (now kinds) (now firsts) (now seconds) entries × (13 ≤ l .word) × (l .word < 32) × (g .count ≤ 64) × (waiting ≤ 16) ⌝ }
+    requires { ⌜ Columns (now kinds) (now firsts) (now seconds) entries × Fits (now kinds) (now firsts) (now seconds) entries × (stepsFrom ≤ l .word) × (l .word < sizeFrom) × (g .count ≤ 64) × (waiting ≤ 16) ⌝ }
     ensures { λ r. ⌜ TurnAt (tableOf (now (kinds .entry)) (now (firsts .entry)) (now (seconds .entry)) entries) entries l g waiting r ⌝ }
 {
     if !heading::ranged(l, entries, 0) {
-        let none = alc::is(0, Name(0), Concept(0));
+        let none = alc::is(lines::NO_SIDE, Name(0), Concept(0));
         return Turn {
             number: 3,
             opens: 0,
             at: 0,
             kept: 0,
-            leaves: 0,
+            leaves: CLOSES,
             first: none,
             second: none,
         };
@@ -94,7 +96,7 @@ pub fn act_at(
     s: State,
 ) -> Act
     requires { ⌜ Ready (now text) (now kinds) (now firsts) (now seconds) entries s ⌝ }
-    ensures { λ r. ⌜ ActAt (tableOf (now (kinds .entry)) (now (firsts .entry)) (now (seconds .entry)) entries) entries s (readAt (now (text .entry)) (s .at) 2) r ⌝ }
+    ensures { λ r. ⌜ ActAt (tableOf (now (kinds .entry)) (now (firsts .entry)) (now (seconds .entry)) entries) entries s (readAt (now (text .entry)) (s .at) atSteps) r ⌝ }
 {
     let line = s.lines + 1;
     match reading::read(text, s.at, IN_STEPS) {
@@ -115,7 +117,7 @@ pub fn act_at(
                 return states::closed(s, t, line, next);
             }
             if t.opens == 1 {
-                return states::passed(s, t, line, next, 0, 0, 0, s.open);
+                return states::passed(s, t, line, next, NOTHING, 0, 0, s.open);
             }
             return states::parted(s, t, line, next);
         }

@@ -11,8 +11,8 @@ use lib.Dec.{ltb}
 use lib.ListN.{length, getD, set, drop}
 use lib.Seq.{getD-set-same, getD-set-other}
 use borrow.Author.Tests.{ltb-true}
-use Rattle.lines.specs.Text.{linesOf}
-use Rattle.lines.specs.Walk.{readAt}
+use Rattle.lines.specs.Text.{atTable, linesOf}
+use Rattle.lines.specs.Walk.{claimsFrom, readAt}
 use Rattle.lines.specs.declared.Line.{Line}
 use Rattle.lines.specs.declared.Next.{Next}
 use Rattle.lines.specs.declared.Next.the-variants.{Found}
@@ -23,7 +23,7 @@ use Rattle.alc.specs.Rows.{refusal}
 use Rattle.alc.specs.Ranges.{inRange}
 use Rattle.alc.specs.Table.{Entry, Table, entryOf, stands, entryFields}
 use Rattle.alc.specs.Dossier.{concept, saying}
-use Rattle.alc.specs.Shown.{kindAt, tableOf}
+use Rattle.alc.specs.Shown.{kindCount, kindAt, tableOf}
 use Rattle.alc.specs.Verdict.{rows, after, begin}
 use Rattle.alc.proofs.ShownLaws.{table-length, table-more}
 use Rattle.heading.specs.Fields.{saidFields}
@@ -33,7 +33,7 @@ use Rattle.heading.proofs.Through.{through-next}
 use Rattle.heading.proofs.TableLaws.{entry-said, said-entry}
 
 -- the judge's rows of a line of the table are those that are tested
-module _ (T : Table) (few : length T ≤ 256) (l : Line) (t : Told l) (w : l .word < 8) where
+module _ (T : Table) (few : length T ≤ 256) (l : Line) (t : Told l) (w : l .word < claimsFrom) where
   plain : saying l ≡ concept (entryOf (kindAt (l .word)) (l .n0) (l .n1))
   plain = said-entry (l .side) (l .n0) (l .n1) (l .n2) (l .word) w (t .first) (t .second)
 
@@ -72,22 +72,22 @@ module _ (text ks₀ xs₀ ys₀ : List ℕ) where
     few = rw (table-length ks xs ys n) (v .columns .few)
 
     -- the walk stops
-    pub stops : (x : Next) (k : ℕ) → readAt text at 0 ≡ x → TableEnd T x k → TableRead text ks₀ xs₀ ys₀ ks xs ys (record { number = k; at = at; count = n })
+    pub stops : (x : Next) (k : ℕ) → readAt text at atTable ≡ x → TableEnd T x k → TableRead text ks₀ xs₀ ys₀ ks xs ys (record { number = k; at = at; count = n })
     stops x k e d = record { columns = v .columns; kept = v .kept; read = v .so; ends = subst (λ y. TableEnd T y k) (sym e) d }
 
-    module _ (l : Line) (to : ℕ) (r : readAt text at 0 ≡ Found l to) where
-      f : Line-found text at 0 l to
-      f = when-found text at 0 l to r
+    module _ (l : Line) (to : ℕ) (r : readAt text at atTable ≡ Found l to) where
+      f : Line-found text at atTable l to
+      f = when-found text at atTable l to r
 
       t : Told l
       t = told (drop at text) l (linesOf (drop to text)) (f .lines)
 
-      pub fails : (k : ℕ) → l .word < 8 → k ≡ refusal (entryRows T l) → (k ≡ 0 → ⊥) → TableEnd T (Found l to) k
+      pub fails : (k : ℕ) → l .word < claimsFrom → k ≡ refusal (entryRows T l) → (k ≡ 0 → ⊥) → TableEnd T (Found l to) k
       fails zero w e h = absurd (h refl)
       fails (suc k) w e h = failed w (rows-entry T few l t w ∙ sym e)
 
       -- the walk goes on: the line is stored
-      module _ (w : l .word < 8) (e : 0 ≡ refusal (entryRows T l)) where
+      module _ (w : l .word < claimsFrom) (e : 0 ≡ refusal (entryRows T l)) where
         passed : (ltb (length T) 256 ≡ true) × (every (inRange (length T) 0) (saidFields (saying l)) ≡ true)
         unfolding entryRows
         passed = go (ltb (length T) 256) (every (inRange (length T) 0) (saidFields (saying l))) refl refl e
@@ -141,7 +141,7 @@ module _ (text ks₀ xs₀ ys₀ : List ℕ) where
             ranges = λ i h. range i h (ℕ-discrete i n);
           }
             where
-              kind : (i : ℕ) → i < n + 1 → Dec (i ≡ n) → getD ks′ i 0 < 8
+              kind : (i : ℕ) → i < n + 1 → Dec (i ≡ n) → getD ks′ i 0 < kindCount
               kind i h (yes q) = rw (q, getD-set-same ks n (l .word) 0 (omega (arith, room))) w
               kind i h (no q) = rw (getD-set-other ks n i (l .word) 0 q) (v .columns .kinds i (omega arith))
 

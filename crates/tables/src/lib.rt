@@ -3,7 +3,6 @@ use goals::Entry;
 use heading::Listed;
 use heading::ranged;
 use lines::IN_TABLE;
-use lines::IS;
 use lines::Line;
 use lines::Next;
 ghost use mathlib.Core.Path.{_≡_};
@@ -13,7 +12,8 @@ ghost use mathlib.Core.Bool.{_&&_};
 ghost use lib.Dec.{eqb};
 ghost use Rattle.alc.specs.Rows.{refusal};
 ghost use Rattle.alc.specs.Table.{entryOf, stands as standsIn};
-ghost use Rattle.alc.specs.Shown.{kindAt, tableOf};
+ghost use Rattle.lines.specs.Walk.{claimsFrom};
+ghost use Rattle.alc.specs.Shown.{kindCount, kindAt, tableOf};
 ghost use Rattle.heading.specs.Parts.{entryRows, TableRead};
 
 // The line of the table that a line of the text is.
@@ -29,7 +29,7 @@ fn made_entry(l: Line) -> Entry
 
 // Whether the entry stands among the first n lines of the table.
 fn repeated(kinds: &[u8; 256], firsts: &[u8; 256], seconds: &[u8; 256], n: usize, e: Entry) -> bool
-    requires { ⌜ (n ≤ 256) × (e .kind < 8) × ((i : ℕ) → i < n → getD (now kinds) i 0 < 8) ⌝ }
+    requires { ⌜ (n ≤ 256) × (e .kind < kindCount) × ((i : ℕ) → i < n → getD (now kinds) i 0 < kindCount) ⌝ }
     ensures { λ r. ⌜ r ≡ standsIn (tableOf (now (kinds .entry)) (now (firsts .entry)) (now (seconds .entry)) n) (entryOf (kindAt (e .kind)) (e .x) (e .y)) ⌝ }
 {
     // No early end: so the compiler compares sixteen lines at a time.
@@ -65,7 +65,7 @@ fn entry_refusal(
     n: usize,
     l: Line,
 ) -> u8
-    requires { ⌜ (n ≤ 256) × (l .word < 8) × ((i : ℕ) → i < n → getD (now kinds) i 0 < 8) ⌝ }
+    requires { ⌜ (n ≤ 256) × (l .word < claimsFrom) × ((i : ℕ) → i < n → getD (now kinds) i 0 < kindCount) ⌝ }
     ensures { λ r. ⌜ r ≡ refusal (entryRows (tableOf (now (kinds .entry)) (now (firsts .entry)) (now (seconds .entry)) n) l) ⌝ }
 {
     if n >= 256 {
@@ -102,7 +102,7 @@ pub fn read_table(
     loop {
         match reading::read(text, at, IN_TABLE) {
             Next::Found(l, next) => {
-                if l.word >= IS {
+                if l.word >= lines::IS {
                     return Listed {
                         number: 0,
                         at: at,

@@ -1,4 +1,5 @@
 // The claims in a model: whether all their names are placed, and the first claim that the model gets wrong.
+use alc::kinds;
 use extents::extensions;
 use sets::in_set;
 use sets::meets;
@@ -55,10 +56,10 @@ fn holds(c: alc::Claim, size: u8, ext: &[u32; 256], places: &[u8; 64], edges: &[
     ensures { λ r. ⌜ r ≡ truthIn size (now (ext .entry)) (now (places .entry)) (now (edges .entry)) (claimOf c) ⌝ }
 {
     let kind = c.kind;
-    if kind == 1 {
+    if kind == kinds::IS {
         return in_set(set_of(ext, c.i), seat(places, c.a));
     }
-    if kind == 2 {
+    if kind == kinds::SUB {
         return within(size, set_of(ext, c.i), set_of(ext, c.j));
     }
     linked(edges, c.role, seat(places, c.a), seat(places, c.b))
@@ -72,7 +73,7 @@ fn wrong(c: alc::Claim, size: u8, ext: &[u32; 256], places: &[u8; 64], edges: &[
 {
     let side = c.side;
     let t = holds(c, size, ext, places, edges);
-    if side == 1 {
+    if side == lines::LEFT {
         return !t;
     }
     t
@@ -112,10 +113,10 @@ fn placed(c: alc::Claim, places: &[u8; 64]) -> bool
     ensures { λ r. ⌜ r ≡ every (isSeated (now (places .entry))) (names (claimOf c)) ⌝ }
 {
     let kind = c.kind;
-    if kind == 1 {
+    if kind == kinds::IS {
         return seated(places, c.a);
     }
-    if kind == 2 {
+    if kind == kinds::SUB {
         return true;
     }
     if seated(places, c.a) {

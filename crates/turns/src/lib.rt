@@ -1,9 +1,12 @@
 // One step at a goal: the first of its rows that it does not pass, or the premises that it leaves.
 use alc::Goal;
 use goals::ANY;
+use goals::CLOSES;
 use goals::Entry;
+use goals::PARTS;
 use goals::Plan;
 use goals::Step;
+use goals::TWO;
 use goals::Turn;
 ghost use mathlib.Core.Path.{_≡_};
 ghost use mathlib.Core.List.{List, [], _++_};
@@ -12,7 +15,8 @@ ghost use lib.ListN.{length, getD};
 ghost use lib.Dec.{leb};
 ghost use Rattle.alc.specs.Rows.{refusal};
 ghost use Rattle.alc.specs.Lists.{any, every, firstAt};
-ghost use Rattle.alc.specs.Shown.{records, kindAt};
+ghost use Rattle.lines.specs.Walk.{stepsFrom, sizeFrom};
+ghost use Rattle.alc.specs.Shown.{records, kindCount, kindAt};
 ghost use Rattle.alc.specs.declared.Claim.{Claim as Record};
 ghost use Rattle.alc.specs.Table.{Table, entry, entryOf};
 ghost use Rattle.alc.specs.Rules.{plan};
@@ -20,7 +24,7 @@ ghost use Rattle.goals.specs.Records.{sameRecord, keeping, stepOf, asks, upTo, 
 
 // Whether the entry is of the kind that the plan asks.
 fn asked(p: Plan, kind: u8) -> bool
-    requires { ⌜ kind < 8 ⌝ }
+    requires { ⌜ kind < kindCount ⌝ }
     ensures { λ r. ⌜ r ≡ asks (p .kind) (kindAt kind) ⌝ }
 {
     if p.kind == ANY {
@@ -87,10 +91,10 @@ fn staying(n: usize, at: usize) -> usize
 fn fits(n: usize, p: Plan) -> bool
     ensures { λ r. ⌜ ((k : List Record) → length k ≡ n → r ≡ every (λ l. leb (length (k ++ l)) 64) (added (p .leaves) (p .first) (p .second))) ⌝ }
 {
-    if p.leaves == 0 {
+    if p.leaves == CLOSES {
         return true;
     }
-    if p.leaves == 2 {
+    if p.leaves == TWO {
         return n < 63;
     }
     n < 64
@@ -100,10 +104,10 @@ fn fits(n: usize, p: Plan) -> bool
 fn open(p: Plan) -> usize
     ensures { λ r. ⌜ r ≡ length (added (p .leaves) (p .first) (p .second)) ⌝ }
 {
-    if p.leaves == 0 {
+    if p.leaves == CLOSES {
         return 0;
     }
-    if p.leaves < 3 {
+    if p.leaves < PARTS {
         return 1;
     }
     2
@@ -112,7 +116,7 @@ fn open(p: Plan) -> usize
 // The number of the first row that the step does not pass at the goal g, of which it keeps n claims, with so many goals waiting; 0 if it passes
 // all.
 fn refused(g: Goal, p: Plan, at: usize, n: usize, kind: u8, waiting: usize) -> u8
-    requires { ⌜ (g .count ≤ 64) × (at ≡ firstAt (sameRecord (p .need)) (records g)) × (kind < 8) × (waiting ≤ 16) ⌝ }
+    requires { ⌜ (g .count ≤ 64) × (at ≡ firstAt (sameRecord (p .need)) (records g)) × (kind < kindCount) × (waiting ≤ 16) ⌝ }
     ensures { λ r. ⌜ (length (keptBy (rulingBy (kindAt kind) p) (records g)) ≡ n → r ≡ refusal (recordRows (rulingBy (kindAt kind) p) (records g) waiting)) ⌝ }
 {
     if !asked(p, kind) {
@@ -135,8 +139,8 @@ fn refused(g: Goal, p: Plan, at: usize, n: usize, kind: u8, waiting: usize) -> u
 
 // One step at the goal g, at the entry of its second field, with so many goals waiting.
 pub fn turn_of(g: Goal, s: Step, e: Entry, waiting: usize) -> Turn
-    requires { ⌜ (g .count ≤ 64) × (s .rule < 19) × (e .kind < 8) × (waiting ≤ 16) ⌝ }
-    ensures { λ r. ⌜ (((T : Table) → entry T (s .y) ≡ entryOf (kindAt (e .kind)) (e .x) (e .y) → Turns [] (ruling (plan T (stepOf (s .rule) (s .x) (s .y) (s .z)))) (records g) waiting r) × (r .number ≡ 0 → Makes r g × (r .opens + waiting ≤ 17)) × (r .opens ≤ 2)) ⌝ }
+    requires { ⌜ (g .count ≤ 64) × (stepsFrom ≤ s .word) × (s .word < sizeFrom) × (e .kind < kindCount) × (waiting ≤ 16) ⌝ }
+    ensures { λ r. ⌜ (((T : Table) → entry T (s .y) ≡ entryOf (kindAt (e .kind)) (e .x) (e .y) → Turns [] (ruling (plan T (stepOf (s .word) (s .x) (s .y) (s .z)))) (records g) waiting r) × (r .number ≡ 0 → Makes r g × (r .opens + waiting ≤ 17)) × (r .opens ≤ 2)) ⌝ }
 {
     let p = rules::plan_of(s, e);
     let found = goals::find(g, p.need);
@@ -169,7 +173,7 @@ pub fn premise(g: Goal, t: Turn) -> Goal
         claims[i] = c;
         i += 1;
     }
-    if t.leaves == 0 {
+    if t.leaves == CLOSES {
         return Goal {
             claims: claims,
             count: n,
@@ -177,7 +181,7 @@ pub fn premise(g: Goal, t: Turn) -> Goal
     }
     let first = t.first;
     claims[n] = first;
-    if t.leaves == 2 {
+    if t.leaves == TWO {
         let second = t.second;
         claims[n + 1] = second;
         return Goal {

@@ -5,181 +5,184 @@ use lines::IN_CLAIMS;
 use lines::IN_FACTS;
 use lines::IN_STEPS;
 use lines::IN_TABLE;
+use lines::NO_SIDE;
 use lines::WORDS;
 use lines::same;
 ghost use mathlib.Core.Path.{_≡_};
-ghost use Rattle.lines.specs.Text.{wordOf, behindOf};
-ghost use Rattle.lines.specs.Walk.{placed, sought};
+ghost use Prim.Native.Nat.{_-_};
+ghost use lib.ListN.{length};
+ghost use Rattle.lines.specs.Text.{claimWords, sectionWords, stepWords, sizeWords, factWords, wordOf, behindOf};
+ghost use Rattle.lines.specs.Walk.{claimsFrom, sectionsFrom, stepsFrom, sizeFrom, factsFrom, numberOf, placed, sought};
 
 // The number of the field f as a word, if it is `proof` or `model`, or the count of words.
-fn section_word(f: &[u8]) -> usize
-    ensures { λ r. ⌜ r ≡ sought 0 (now (f .entry)) 11 2 ⌝ }
+fn section_word(f: &[u8]) -> u8
+    ensures { λ r. ⌜ r ≡ sought 0 (now (f .entry)) sectionsFrom (length sectionWords) ⌝ }
 {
     if same(f, b"proof") {
-        return 11;
+        return lines::PROOF;
     }
     if same(f, b"model") {
-        return 12;
+        return lines::MODEL;
     }
     WORDS
 }
 
 // The same among the words of the table, and `proof` and `model`.
-fn table_word(f: &[u8]) -> usize
-    ensures { λ r. ⌜ r ≡ sought 0 (now (f .entry)) 0 13 ⌝ }
+fn table_word(f: &[u8]) -> u8
+    ensures { λ r. ⌜ r ≡ sought 0 (now (f .entry)) 0 stepsFrom ⌝ }
 {
     if same(f, b"top") {
-        return 0;
+        return lines::TOP;
     }
     if same(f, b"bot") {
-        return 1;
+        return lines::BOT;
     }
     if same(f, b"atom") {
-        return 2;
+        return lines::ATOM;
     }
     if same(f, b"not") {
-        return 3;
+        return lines::NOT;
     }
     if same(f, b"and") {
-        return 4;
+        return lines::AND;
     }
     if same(f, b"or") {
-        return 5;
+        return lines::OR;
     }
     if same(f, b"some") {
-        return 6;
+        return lines::SOME;
     }
     if same(f, b"all") {
-        return 7;
+        return lines::ALL;
     }
     section_word(f)
 }
 
 // The same among the words of the claims.
-fn claim_word(f: &[u8]) -> usize
-    ensures { λ r. ⌜ r ≡ sought 1 (now (f .entry)) 8 3 ⌝ }
+fn claim_word(f: &[u8]) -> u8
+    ensures { λ r. ⌜ r ≡ sought 1 (now (f .entry)) claimsFrom (length claimWords) ⌝ }
 {
     if same(f, b"is") {
-        return 8;
+        return lines::IS;
     }
     if same(f, b"sub") {
-        return 9;
+        return lines::SUB;
     }
     if same(f, b"link") {
-        return 10;
+        return lines::LINK;
     }
     WORDS
 }
 
 // The same among the words of the steps on `sub`, `some` and `all`.
-fn role_word(f: &[u8]) -> usize
-    ensures { λ r. ⌜ r ≡ sought 0 (now (f .entry)) 26 6 ⌝ }
+fn role_word(f: &[u8]) -> u8
+    ensures { λ r. ⌜ r ≡ sought 0 (now (f .entry)) (numberOf "sub-l") (sizeFrom - numberOf "sub-l") ⌝ }
 {
     if same(f, b"sub-l") {
-        return 26;
+        return lines::SUB_L;
     }
     if same(f, b"sub-r") {
-        return 27;
+        return lines::SUB_R;
     }
     if same(f, b"some-l") {
-        return 28;
+        return lines::SOME_L;
     }
     if same(f, b"some-r") {
-        return 29;
+        return lines::SOME_R;
     }
     if same(f, b"all-l") {
-        return 30;
+        return lines::ALL_L;
     }
     if same(f, b"all-r") {
-        return 31;
+        return lines::ALL_R;
     }
     WORDS
 }
 
 // The same among those, and the words of the steps on `top`, `bot`, `not`, `and` and `or`.
-fn boolean_word(f: &[u8]) -> usize
-    ensures { λ r. ⌜ r ≡ sought 0 (now (f .entry)) 18 14 ⌝ }
+fn boolean_word(f: &[u8]) -> u8
+    ensures { λ r. ⌜ r ≡ sought 0 (now (f .entry)) (numberOf "top-l") (sizeFrom - numberOf "top-l") ⌝ }
 {
     if same(f, b"top-l") {
-        return 18;
+        return lines::TOP_L;
     }
     if same(f, b"bot-r") {
-        return 19;
+        return lines::BOT_R;
     }
     if same(f, b"not-l") {
-        return 20;
+        return lines::NOT_L;
     }
     if same(f, b"not-r") {
-        return 21;
+        return lines::NOT_R;
     }
     if same(f, b"and-l") {
-        return 22;
+        return lines::AND_L;
     }
     if same(f, b"and-r") {
-        return 23;
+        return lines::AND_R;
     }
     if same(f, b"or-l") {
-        return 24;
+        return lines::OR_L;
     }
     if same(f, b"or-r") {
-        return 25;
+        return lines::OR_R;
     }
     role_word(f)
 }
 
 // The same among those, and the words of the steps that close a goal: the words of all steps.
-fn step_word(f: &[u8]) -> usize
-    ensures { λ r. ⌜ r ≡ sought 0 (now (f .entry)) 13 19 ⌝ }
+fn step_word(f: &[u8]) -> u8
+    ensures { λ r. ⌜ r ≡ sought 0 (now (f .entry)) stepsFrom (length stepWords) ⌝ }
 {
     if same(f, b"id") {
-        return 13;
+        return lines::ID;
     }
     if same(f, b"id-sub") {
-        return 14;
+        return lines::ID_SUB;
     }
     if same(f, b"id-link") {
-        return 15;
+        return lines::ID_LINK;
     }
     if same(f, b"bot-l") {
-        return 16;
+        return lines::BOT_L;
     }
     if same(f, b"top-r") {
-        return 17;
+        return lines::TOP_R;
     }
     boolean_word(f)
 }
 
 // The same, if it is `size`.
-fn size_word(f: &[u8]) -> usize
-    ensures { λ r. ⌜ r ≡ sought 0 (now (f .entry)) 32 1 ⌝ }
+fn size_word(f: &[u8]) -> u8
+    ensures { λ r. ⌜ r ≡ sought 0 (now (f .entry)) sizeFrom (length sizeWords) ⌝ }
 {
     if same(f, b"size") {
-        return 32;
+        return lines::SIZE;
     }
     WORDS
 }
 
 // The same among the words of a model's further lines.
-fn fact_word(f: &[u8]) -> usize
-    ensures { λ r. ⌜ r ≡ sought 0 (now (f .entry)) 33 3 ⌝ }
+fn fact_word(f: &[u8]) -> u8
+    ensures { λ r. ⌜ r ≡ sought 0 (now (f .entry)) factsFrom (length factWords) ⌝ }
 {
     if same(f, b"name") {
-        return 33;
+        return lines::NAME;
     }
     if same(f, b"has") {
-        return 34;
+        return lines::HAS;
     }
     if same(f, b"edge") {
-        return 35;
+        return lines::EDGE;
     }
     WORDS
 }
 
 // The number of the field f as a word of a line of a side, at a place, or the count of words. No word that is not allowed there is compared.
-pub fn word(f: &[u8], side: u8, place: u8) -> usize
+pub fn word(f: &[u8], side: u8, place: u8) -> u8
     ensures { λ r. ⌜ r ≡ placed place (wordOf (behindOf side) (now (f .entry))) ⌝ }
 {
-    if side != 0 {
+    if side != NO_SIDE {
         if place > IN_CLAIMS {
             return WORDS;
         }

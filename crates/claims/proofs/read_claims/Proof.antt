@@ -1,13 +1,14 @@
 -- `claims::read_claims` meets its contract. The invariant: the lines read have passed, and the goal shows their claims, whatever the table of so
 -- many lines. The measure is what is left of the text. Assumes nothing.
-use Prim.Native.Nat.{ℕ, _-_, _≤_}
+use Prim.Native.Nat.{ℕ, _-_, _≤_, _<_}
 use mathlib.Core.List.{List}
 use mathlib.Core.Path.{_≡_, sym, _∙_}
 use native.Mathlib.Omega.{arith}
 use lib.ListN.{length}
 use denote.Ref.{now}
 use borrow.Author.Needs.{needs}
-use Rattle.lines.specs.Walk.{readAt}
+use Rattle.lines.specs.Text.{atClaims}
+use Rattle.lines.specs.Walk.{claimsFrom, stepsFrom, readAt}
 use Rattle.lines.specs.declared.Next.{Next}
 use Rattle.lines.specs.declared.Next.the-variants.{Found, Bad, End}
 use Rattle.reading.proofs.Loop.{Line-found, when-found}
@@ -53,17 +54,17 @@ start a = a .before .before .before .args .start
 abbrev entries : tie.At-loop Inv-loop μ-loop → ℕ
 entries a = a .before .before .before .args .entries
 
-found : (c : tie.After-l Inv-loop μ-loop) → readAt (text (A c)) (A c .loop .at) 1 ≡ Found (c .l .given .0 .0) (c .l .given .0 .1 .0)
+found : (c : tie.After-l Inv-loop μ-loop) → readAt (text (A c)) (A c .loop .at) atClaims ≡ Found (c .l .given .0 .0) (c .l .given .0 .1 .0)
 found c = sym (c .before .before .read .ensures) ∙ c .l .given .1
 
-line : (c : tie.After-l Inv-loop μ-loop) → Line-found (text (A c)) (A c .loop .at) 1 (c .l .given .0 .0) (c .l .given .0 .1 .0)
+line : (c : tie.After-l Inv-loop μ-loop) → Line-found (text (A c)) (A c .loop .at) atClaims (c .l .given .0 .0) (c .l .given .0 .1 .0)
 line c = when-found _ _ _ _ _ (found c)
 
 known : (c : tie.After-l Inv-loop μ-loop) → Told (c .l .given .0 .0)
 known c = told _ _ _ (line c .lines)
 
-word : (c : tie.After-l Inv-loop μ-loop) → (8 ≤ c .l .given .0 .0 .word) × (c .l .given .0 .0 .word ≤ 12)
-word c = stands-among _ (known c) (line c .allowed)
+word : (c : tie.After-l Inv-loop μ-loop) → (claimsFrom ≤ c .l .given .0 .0 .word) × (c .l .given .0 .0 .word < stepsFrom)
+word c = stands-among (c .l .given .0 .0) (line c .allowed)
 
 sub-t12 : tie.Need-sub-t12 Inv-loop μ-loop
 sub-t12 c = omega (arith, c .before .if1 .taken)
@@ -90,7 +91,7 @@ claim-refusal-requires : tie.Need-claim-refusal-requires Inv-loop μ-loop
 claim-refusal-requires c κs = known (c .before .before .before) .known
 
 -- what the walk came to, where it is refused
-stopped : (a : tie.At-loop Inv-loop μ-loop) (k : ℕ) (x : Next) → readAt (text a) (a .loop .at) 1 ≡ x
+stopped : (a : tie.At-loop Inv-loop μ-loop) (k : ℕ) (x : Next) → readAt (text a) (a .loop .at) atClaims ≡ x
     → ((T : Table) (q : length T ≡ entries a) → ClaimsEnd T (a .loop .inv .3 T q .cs) x k)
     → (T : Table) → length T ≡ entries a
     → ClaimsRead (text a) T (start a) (record { number = k; section = 0; at = a .loop .at; lines = a .loop .n; claims = a .loop .claims })

@@ -5,6 +5,7 @@ use native.Mathlib.Omega.{arith}
 use denote.Ref.{now}
 use borrow.Author.Needs.{needs}
 use borrow.Author.Tests.{not-true, not-false}
+use Rattle.lines.specs.Text.{atSize}
 use Rattle.reading.proofs.Loop.{Line-found, when-found, when-bad, when-end}
 use Rattle.alc.proofs.ShownLaws.{table-length}
 use Rattle.facts.proofs.FactLaws.{found-told}
@@ -22,8 +23,8 @@ enum-known-l c = search needs
 abbrev S : tie.After-l → tie.Start
 S c = c .before .before .before .before
 
-found : (c : tie.After-l) → Line-found (now (S c .args .text)) (S c .args .start) 3 (c .l .given .0 .0) (c .l .given .0 .1 .0)
-found c = when-found (now (S c .args .text)) (S c .args .start) 3 (c .l .given .0 .0) (c .l .given .0 .1 .0) (sym (c .before .before .read .ensures) ∙ c .l .given .1)
+found : (c : tie.After-l) → Line-found (now (S c .args .text)) (S c .args .start) atSize (c .l .given .0 .0) (c .l .given .0 .1 .0)
+found c = when-found (now (S c .args .text)) (S c .args .start) atSize (c .l .given .0 .0) (c .l .given .0 .1 .0) (sym (c .before .before .read .ensures) ∙ c .l .given .1)
 
 ranged-requires : tie.Need-ranged-requires
 ranged-requires c κs = found-told _ _ _ _ _ (found (c .before)) .known

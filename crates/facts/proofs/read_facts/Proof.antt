@@ -9,6 +9,7 @@ use lib.ListN.{length}
 use denote.Ref.{now}
 use borrow.Author.Needs.{needs}
 use borrow.Author.Tests.{not-true, not-false}
+use Rattle.lines.specs.Text.{atFacts}
 use Rattle.reading.proofs.Loop.{Line-found, when-found, when-bad, when-end}
 use Rattle.alc.specs.Lists.{every}
 use Rattle.alc.specs.Ranges.{inRange}
@@ -44,8 +45,8 @@ A c = c .before .before .before
 abbrev text : tie.At-loop Inv-loop μ-loop → List ℕ
 text a = now (a .before .before .args .text)
 
-found : (c : tie.After-l Inv-loop μ-loop) → Line-found (text (A c)) (A c .loop .at) 4 (c .l .given .0 .0) (c .l .given .0 .1 .0)
-found c = when-found (text (A c)) (A c .loop .at) 4 (c .l .given .0 .0) (c .l .given .0 .1 .0) (sym (c .before .before .read .ensures) ∙ c .l .given .1)
+found : (c : tie.After-l Inv-loop μ-loop) → Line-found (text (A c)) (A c .loop .at) atFacts (c .l .given .0 .0) (c .l .given .0 .1 .0)
+found c = when-found (text (A c)) (A c .loop .at) atFacts (c .l .given .0 .0) (c .l .given .0 .1 .0) (sym (c .before .before .read .ensures) ∙ c .l .given .1)
 
 ranged-requires : tie.Need-ranged-requires Inv-loop μ-loop
 ranged-requires c κs = found-told _ _ _ _ _ (found (c .before)) .known

@@ -4,6 +4,7 @@ use native.Mathlib.Omega.{arith}
 use mathlib.Core.Path.{_≡_, refl, sym, ap₂, subst, _∙_}
 use denote.Ref.{now}
 use borrow.Author.Needs.{needs}
+use Rattle.lines.specs.Text.{atSteps}
 use Rattle.lines.specs.Walk.{readAt}
 use Rattle.lines.specs.declared.Next.{Next}
 use Rattle.reading.proofs.Loop.{when-found}
@@ -27,7 +28,7 @@ At s n a = ActAt (tableOf (now (s .args .kinds)) (now (s .args .firsts)) (now (s
 
 -- and where that is read which stands in the text
 abbrev Stands : tie.After-read → Act → Type 0
-Stands r a = At (R r) (readAt (now (R r .args .text)) (R r .args .s .at) 2) a
+Stands r a = At (R r) (readAt (now (R r .args .text)) (R r .args .s .at) atSteps) a
 
 -- so it is by a case of the definition, where what is read and what a function gives are those of the case
 is : (r : tie.After-read) (n : Next) (a b : Act) → r .read .result ≡ n → a ≡ b → At (R r) n b → Stands r a
@@ -62,7 +63,7 @@ turn-at-requires c κs =
     let k = K (c .before .before .before) in
     let s = R (D k) in
     let v = s .pre in
-    let w = word _ _ _ _ _ _ v _ _ (when-found (now (s .args .text)) _ 2 _ _ (sym (D k .read .ensures) ∙ L k .l .given .1)) in
+    let w = word _ _ _ _ _ _ v _ _ (when-found (now (s .args .text)) _ atSteps _ _ (sym (D k .read .ensures) ∙ L k .l .given .1)) in
     (v .columns, v .fits, w .0, w .1, v .small, omega (arith, v .few))
 
 -- the line has its turn

@@ -45,7 +45,7 @@ turn-of-requires : tie.Need-turn-of-requires
 turn-of-requires c κs =
     let m = c .before .before in
     let s = m .before .before .before .before .before .before in
-    (s .pre .4, omega (arith, ap (λ (q : Step). q .rule) (m .made-step .ensures), s .pre .3), c .entry-at .ensures .1, s .pre .5)
+    (s .pre .4, omega (arith, ap (λ (q : Step). q .word) (m .made-step .ensures), s .pre .2), omega (arith, ap (λ (q : Step). q .word) (m .made-step .ensures), s .pre .3), c .entry-at .ensures .1, s .pre .5)
 
 returns-2 : tie.Need-returns-2
 returns-2 c =
@@ -55,7 +55,7 @@ returns-2 c =
     let t = c .turn-of .ensures in
     record {
       turned = turned _ _ _ _ _ _ (sym (r .ranged .ensures) ∙ not-false _ (m .before .if1 .left))
-          (subst (λ (q : Step). Turns [] (ruling (plan (T s) (stepOf (q .rule) (q .x) (q .y) (q .z)))) (records (s .args .g)) (s .args .waiting) (c .turn-of .result)) (m .made-step .ensures)
+          (subst (λ (q : Step). Turns [] (ruling (plan (T s) (stepOf (q .word) (q .x) (q .y) (q .z)))) (records (s .args .g)) (s .args .waiting) (c .turn-of .result)) (m .made-step .ensures)
           (t .0 (T s) (c .before .entry-at .ensures .0)));
       makes = t .1;
       few = t .2;

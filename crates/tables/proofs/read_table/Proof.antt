@@ -7,6 +7,7 @@ use mathlib.Core.List.{List}
 use lib.ListN.{length}
 use denote.Ref.{now}
 use borrow.Author.Needs.{needs}
+use Rattle.lines.specs.Text.{atTable}
 use Rattle.lines.specs.Walk.{readAt}
 use Rattle.lines.specs.declared.Next.the-variants.{Found}
 use Rattle.reading.proofs.Loop.{when-found}
@@ -40,7 +41,7 @@ A c = c .before .before .before
 abbrev text : tie.At-loop Inv-loop μ-loop → List ℕ
 text a = now (a .before .before .args .text)
 
-found : (c : tie.After-l Inv-loop μ-loop) → readAt (text (A c)) (A c .loop .at) 0 ≡ Found (c .l .given .0 .0) (c .l .given .0 .1 .0)
+found : (c : tie.After-l Inv-loop μ-loop) → readAt (text (A c)) (A c .loop .at) atTable ≡ Found (c .l .given .0 .0) (c .l .given .0 .1 .0)
 found c = sym (c .before .before .read .ensures) ∙ c .l .given .1
 
 returns : tie.Need-returns Inv-loop μ-loop

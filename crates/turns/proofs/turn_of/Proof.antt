@@ -45,7 +45,7 @@ size c =
 planned : (c : tie.After-plan-of) (T : Table)
     → entry T (c .before .args .s .y) ≡ entryOf (kindAt (c .before .args .e .kind)) (c .before .args .e .x) (c .before .args .e .y)
     → rulingBy (kindAt (c .before .args .e .kind)) (c .plan-of .result)
-    ≡ ruling (plan T (stepOf (c .before .args .s .rule) (c .before .args .s .x) (c .before .args .s .y) (c .before .args .s .z)))
+    ≡ ruling (plan T (stepOf (c .before .args .s .word) (c .before .args .s .x) (c .before .args .s .y) (c .before .args .s .z)))
 planned c T h = ap (λ (e : Entry). rulingBy (e .kind) (c .plan-of .result)) (sym h) ∙ c .plan-of .ensures T h .is
 
 returns : tie.Need-returns

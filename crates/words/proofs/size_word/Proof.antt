@@ -1,16 +1,18 @@
--- `words::size_word` meets its contract: it compares with the one word. Assumes nothing.
-use mathlib.Core.Path.{refl, sym, _∙_}
-use Rattle.lines.specs.Text.{words, rowOf}
-use Rattle.lines.proofs.Words.{sought-is, sought-none}
+-- `words::size_word` meets its contract: it compares with each of these words, and a field is one word at most. Assumes nothing.
+use mathlib.Core.Path.{refl}
+use Rattle.lines.specs.Text.{words, rowOf, rowIndex}
+use Rattle.lines.proofs.Words.{hit, done, no, among, covered, covers, rest-none}
 use Rattle.words.proofs.size_word.Statement.{statement}
 use Rattle.words.proofs.size_word.Tie as tie
 
 pub size-word-spec : {M : Type 1} → statement M
-unfolding words rowOf
+unfolding words rowOf rowIndex among covered covers
 size-word-spec =
     tie.close
     (tie.spec
-    (λ c. refl)
-    (λ c κs. tt)
-    (λ c. sym (sought-is 0 _ 32 1 0 refl refl refl (sym (c .before .same .ensures) ∙ c .if1 .taken)))
-    (λ c. sym (sought-none 0 _ 32 1 (tt, sym (c .before .same .ensures) ∙ c .if1 .left))))
+    (λ c. refl) (λ c κs. tt) (λ c. hit _ _ _ _ _ refl refl refl (c .before .same .ensures) (c .if1 .taken))
+    (λ c.
+    let m = done in
+    let e = c in
+    let m = no "size" (e .before .same .ensures) (e .if1 .left) m in
+    rest-none _ _ _ _ refl m))

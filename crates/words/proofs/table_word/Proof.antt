@@ -1,47 +1,33 @@
 -- `words::table_word` meets its contract: it compares with each of these words, and a field is one word at most; `section_word` compares with those behind them. Assumes nothing.
-use mathlib.Core.Path.{refl, sym, _∙_}
-use Rattle.lines.specs.Text.{words, rowOf}
-use Rattle.lines.proofs.Words.{sought-is, sought-past, unsided}
+use mathlib.Core.Path.{refl, _∙_}
+use Rattle.lines.specs.Text.{words, rowOf, rowIndex}
+use Rattle.lines.proofs.Words.{hit, done, no, among, covered, covers, rest}
 use Rattle.words.proofs.table_word.Statement.{statement}
 use Rattle.words.proofs.table_word.Tie as tie
 
 pub table-word-spec : {M : Type 1} → statement M
-unfolding words rowOf
+unfolding words rowOf rowIndex among covered covers
 table-word-spec =
     tie.close
     (tie.spec
-    (λ c. refl)
-    (λ c κs. tt)
-    (λ c. sym (sought-is 0 _ 0 13 0 refl refl refl (sym (c .before .same .ensures) ∙ c .if1 .taken)))
-    (λ c. refl)
-    (λ c κs. tt)
-    (λ c. sym (sought-is 0 _ 0 13 1 refl refl refl (sym (c .before .same2 .ensures) ∙ c .if2 .taken)))
-    (λ c. refl)
-    (λ c κs. tt)
-    (λ c. sym (sought-is 0 _ 0 13 2 refl refl refl (sym (c .before .same3 .ensures) ∙ c .if3 .taken)))
-    (λ c. refl)
-    (λ c κs. tt)
-    (λ c. sym (sought-is 0 _ 0 13 3 refl refl refl (sym (c .before .same4 .ensures) ∙ c .if4 .taken)))
-    (λ c. refl)
-    (λ c κs. tt)
-    (λ c. sym (sought-is 0 _ 0 13 4 refl refl refl (sym (c .before .same5 .ensures) ∙ c .if5 .taken)))
-    (λ c. refl)
-    (λ c κs. tt)
-    (λ c. sym (sought-is 0 _ 0 13 5 refl refl refl (sym (c .before .same6 .ensures) ∙ c .if6 .taken)))
-    (λ c. refl)
-    (λ c κs. tt)
-    (λ c. sym (sought-is 0 _ 0 13 6 refl refl refl (sym (c .before .same7 .ensures) ∙ c .if7 .taken)))
-    (λ c. refl)
-    (λ c κs. tt)
-    (λ c. sym (sought-is 0 _ 0 13 7 refl refl refl (sym (c .before .same8 .ensures) ∙ c .if8 .taken)))
+    (λ c. refl) (λ c κs. tt) (λ c. hit _ _ _ _ _ refl refl refl (c .before .same .ensures) (c .if1 .taken))
+    (λ c. refl) (λ c κs. tt) (λ c. hit _ _ _ _ _ refl refl refl (c .before .same2 .ensures) (c .if2 .taken))
+    (λ c. refl) (λ c κs. tt) (λ c. hit _ _ _ _ _ refl refl refl (c .before .same3 .ensures) (c .if3 .taken))
+    (λ c. refl) (λ c κs. tt) (λ c. hit _ _ _ _ _ refl refl refl (c .before .same4 .ensures) (c .if4 .taken))
+    (λ c. refl) (λ c κs. tt) (λ c. hit _ _ _ _ _ refl refl refl (c .before .same5 .ensures) (c .if5 .taken))
+    (λ c. refl) (λ c κs. tt) (λ c. hit _ _ _ _ _ refl refl refl (c .before .same6 .ensures) (c .if6 .taken))
+    (λ c. refl) (λ c κs. tt) (λ c. hit _ _ _ _ _ refl refl refl (c .before .same7 .ensures) (c .if7 .taken))
+    (λ c. refl) (λ c κs. tt) (λ c. hit _ _ _ _ _ refl refl refl (c .before .same8 .ensures) (c .if8 .taken))
     (λ c κs. tt)
     (λ c.
-    let e8 = c .before in
-    let e7 = e8 .before .before .before in
-    let e6 = e7 .before .before .before in
-    let e5 = e6 .before .before .before in
-    let e4 = e5 .before .before .before in
-    let e3 = e4 .before .before .before in
-    let e2 = e3 .before .before .before in
-    let e1 = e2 .before .before .before in
-    c .section-word .ensures ∙ sym (sought-past 0 _ 0 8 5 ((((((((tt, sym (e1 .before .same .ensures) ∙ e1 .if1 .left), sym (e2 .before .same2 .ensures) ∙ e2 .if2 .left), sym (e3 .before .same3 .ensures) ∙ e3 .if3 .left), sym (e4 .before .same4 .ensures) ∙ e4 .if4 .left), sym (e5 .before .same5 .ensures) ∙ e5 .if5 .left), sym (e6 .before .same6 .ensures) ∙ e6 .if6 .left), sym (e7 .before .same7 .ensures) ∙ e7 .if7 .left), sym (e8 .before .same8 .ensures) ∙ e8 .if8 .left) ∙ unsided _)))
+    let m = done in
+    let e = c .before in
+    let m = no "all" (e .before .same8 .ensures) (e .if8 .left) m in let e = e .before .before .before in
+    let m = no "some" (e .before .same7 .ensures) (e .if7 .left) m in let e = e .before .before .before in
+    let m = no "or" (e .before .same6 .ensures) (e .if6 .left) m in let e = e .before .before .before in
+    let m = no "and" (e .before .same5 .ensures) (e .if5 .left) m in let e = e .before .before .before in
+    let m = no "not" (e .before .same4 .ensures) (e .if4 .left) m in let e = e .before .before .before in
+    let m = no "atom" (e .before .same3 .ensures) (e .if3 .left) m in let e = e .before .before .before in
+    let m = no "bot" (e .before .same2 .ensures) (e .if2 .left) m in let e = e .before .before .before in
+    let m = no "top" (e .before .same .ensures) (e .if1 .left) m in
+    c .section-word .ensures ∙ rest _ _ _ _ _ _ refl m))

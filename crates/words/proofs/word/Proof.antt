@@ -1,15 +1,17 @@
 -- `words::word` meets its contract: the words of a place stand together in the table, so the field is sought among them alone. Assumes nothing.
-use Prim.Native.Nat.{ℕ, _+_, _<_, zero-le}
+use Prim.Native.Nat.{ℕ, _+_, _-_, _≤_, _<_, zero-le}
 use mathlib.Core.List.{List}
+use mathlib.Core.Bool.{true, Bool·beq}
+use lib.ListN.{length}
 use mathlib.Core.Path.{_≡_, refl, sym, ap, _∙_}
 use native.Mathlib.Omega.{arith}
 use denote.Ref.{now}
 use borrow.Author.Needs.{needs}
 use borrow.Author.Tests.{eq-eqb, ne-eqb}
-use Rattle.lines.specs.Text.{words, rowOf, wordOf, behindOf, allowed}
-use Rattle.lines.specs.Walk.{within, placed, sought}
+use Rattle.lines.specs.Text.{sectionWords, stepWords, sizeWords, factWords, words, wordCount, rowOf, wordOf, behindOf, allowed}
+use Rattle.lines.specs.Walk.{claimsFrom, sectionsFrom, stepsFrom, sizeFrom, factsFrom, within, placed, sought}
 use Rattle.lines.proofs.Laws.{none-from}
-use Rattle.lines.proofs.Words.{spans, spans-none, placed-sought, unsided, claimed, unclaimed}
+use Rattle.lines.proofs.Words.{allBelow, spans, spans-none, placed-sought, done, among, covered, covers, rest, claimed, unclaimed}
 use Rattle.words.proofs.word.Statement.{statement}
 use Rattle.words.proofs.word.Tie as tie
 
@@ -33,8 +35,12 @@ module _ (c : tie.Start) where
   unfolding behindOf
   no-side r p a n z q s e = rw (eq-eqb (c .args .side) 0 z) (e ∙ placed-sought 0 f p a n s ∙ ap (λ (k : ℕ). placed k (wordOf 0 f)) (sym q))
 
+  -- which is so in the table
+  by-place : (r p a n : ℕ) → c .args .side ≡ 0 → place ≡ p → a + n ≤ wordCount → allBelow (λ w. Bool·beq (allowed p w) (within a (a + n) w)) wordCount ≡ true → r ≡ sought 0 f a n → Is r
+  by-place r p a n z q h t e = no-side r p a n z q (spans p a (a + n) h t) e
+
 pub word-spec : {M : Type 1} → statement M
-unfolding words rowOf sought
+unfolding words rowOf sought among covered covers
 word-spec =
     tie.close
     (tie.spec
@@ -46,13 +52,14 @@ word-spec =
     (λ c κs. search needs)
     (λ c κs. search needs)
     (λ c κs. search needs)
-    (λ c. let m = c .before in no-side (m .before .before .before) _ 0 0 13 (m .before .if1 .left) (m .match .keys1) (spans 0 0 13 (omega arith) refl) (c .table-word .ensures))
+    (λ c. let m = c .before in by-place (m .before .before .before) _ _ 0 stepsFrom (m .before .if1 .left) (m .match .keys1) (omega arith) refl (c .table-word .ensures))
     (λ c.
     let m = c .before in
-    no-side (m .before .before .before) _ 1 8 5 (m .before .if1 .left) (m .match .keys2) (spans 1 8 13 (omega arith) refl) (c .section-word .ensures ∙ sym (unsided (f (m .before .before .before)))))
-    (λ c. let m = c .before in no-side (m .before .before .before) _ 2 13 19 (m .before .if1 .left) (m .match .keys3) (spans 2 13 32 (omega arith) refl) (c .step-word .ensures))
-    (λ c. let m = c .before in no-side (m .before .before .before) _ 3 32 1 (m .before .if1 .left) (m .match .keys4) (spans 3 32 33 (omega arith) refl) (c .size-word .ensures))
-    (λ c. let m = c .before in no-side (m .before .before .before) _ 4 33 3 (m .before .if1 .left) (m .match .keys5) (spans 4 33 36 (omega arith) refl) (c .fact-word .ensures))
+    by-place (m .before .before .before) _ _ claimsFrom (stepsFrom - claimsFrom) (m .before .if1 .left) (m .match .keys2) (omega arith) refl
+    (c .section-word .ensures ∙ rest 0 (f (m .before .before .before)) claimsFrom (stepsFrom - claimsFrom) sectionsFrom (length sectionWords) refl done))
+    (λ c. let m = c .before in by-place (m .before .before .before) _ _ stepsFrom (length stepWords) (m .before .if1 .left) (m .match .keys3) (omega arith) refl (c .step-word .ensures))
+    (λ c. let m = c .before in by-place (m .before .before .before) _ _ sizeFrom (length sizeWords) (m .before .if1 .left) (m .match .keys4) (omega arith) refl (c .size-word .ensures))
+    (λ c. let m = c .before in by-place (m .before .before .before) _ _ factsFrom (length factWords) (m .before .if1 .left) (m .match .keys5) (omega arith) refl (c .fact-word .ensures))
     (λ c.
     let z : c .before .before .before .args .place < 5 → ⊥ = none-from 0 5 (c .before .before .before .args .place) (c .match .rest) zero-le in
-    no-side (c .before .before .before) _ _ 36 0 (c .before .if1 .left) refl (spans-none _ (omega arith)) refl))
+    no-side (c .before .before .before) _ _ wordCount 0 (c .before .if1 .left) refl (spans-none _ (omega arith)) refl))
