@@ -17,11 +17,11 @@ use Rattle.alc.specs.Dossier.{sided, claim, unread, claims, sayings, saying}
 use Rattle.alc.specs.Shown.{recordBy, recordOf}
 use Rattle.alc.specs.Verdict.{rows}
 use Rattle.alc.specs.declared.Claim.{Claim as Record}
-use Rattle.heading.specs.Fields.{saidFields}
-use Rattle.heading.specs.Parts.{claimBy, claimIn, sidedIn, claimRows, inClaims}
-use Rattle.heading.proofs.Said.{said-part}
-use Rattle.heading.proofs.Small.{Small}
-use Rattle.heading.proofs.TableLaws.{byte}
+use Rattle.parts.specs.Fields.{saidFields}
+use Rattle.parts.specs.Parts.{claimBy, claimIn, sidedIn, claimRows, inClaims}
+use Rattle.parts.proofs.Said.{said-part}
+use Rattle.parts.proofs.Small.{Small}
+use Rattle.parts.proofs.TableLaws.{byte}
 
 -- the rows of a claim, read from the top
 module _ (e n : ℕ) (l : Line) where

@@ -28,10 +28,10 @@ use Rattle.alc.specs.declared.Goal.{Goal as Records}
 use Rattle.alc.specs.declared.Claim.{Claim as Record}
 use Rattle.alc.specs.Verdict.{State, rows, after}
 use Rattle.goals.proofs.Steps.{map-append}
-use Rattle.heading.specs.Fields.{saidFields}
-use Rattle.heading.specs.Parts.{sidedIn, claimRows, inClaims, inSteps, atStart, Through, none, ClaimsEnd, failed, ClaimsLead, proof, model, refused}
-use Rattle.heading.proofs.Small.{small}
-use Rattle.heading.proofs.Through.{through-next}
+use Rattle.parts.specs.Fields.{saidFields}
+use Rattle.parts.specs.Parts.{sidedIn, claimRows, inClaims, inSteps, atStart, Through, none, ClaimsEnd, failed, ClaimsLead, proof, model, refused}
+use Rattle.parts.proofs.Small.{small}
+use Rattle.parts.proofs.Through.{through-next}
 use Rattle.claims.proofs.ClaimLaws.{claim-said, rows-claim}
 
 -- the words that stand in the claims' place: the claims, `proof` and `model`: a test of all words

@@ -3,14 +3,14 @@ use alc::Claim;
 use alc::Concept;
 use alc::Name;
 use alc::Role;
-use heading::Heading;
-use heading::PROVES;
-use heading::ranged;
 use lines::IN_CLAIMS;
 use lines::LEFT;
 use lines::Line;
 use lines::Next;
 use lines::RIGHT;
+use parts::Heading;
+use parts::PROVES;
+use parts::ranged;
 ghost use mathlib.Core.Path.{_≡_};
 ghost use Prim.Native.Nat.{_<_, _≤_};
 ghost use lib.ListN.{length};
@@ -21,7 +21,7 @@ ghost use lib.Dec.{eqb};
 ghost use Rattle.alc.specs.Rows.{refusal};
 ghost use Rattle.alc.specs.Table.{Table};
 ghost use Rattle.alc.specs.Shown.{recordOf};
-ghost use Rattle.heading.specs.Parts.{sidedIn, claimRows, ClaimsRead};
+ghost use Rattle.parts.specs.Parts.{sidedIn, claimRows, ClaimsRead};
 
 // What is to be taken off a word that ends the claims, so that `proof` is PROVES and `model` is MODELS.
 const BEFORE: u8 = lines::PROOF - PROVES;

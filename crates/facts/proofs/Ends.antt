@@ -31,11 +31,11 @@ use Rattle.alc.specs.Verdict.{refuted, refused, rows, after, ending, modelled, 
 use Rattle.alc.specs.declared.Goal.{Goal as Records}
 use Rattle.alc.proofs.Goal.{the-type}
 use Rattle.alc.proofs.ShownLaws.{table-length, table-at}
-use Rattle.heading.specs.Fields.{saidFields}
-use Rattle.heading.specs.Parts.{Columns, atStart}
-use Rattle.heading.proofs.Small.{small}
-use Rattle.heading.proofs.Judging.{judge-end, judge-bad, judge-next, judge-refused}
-use Rattle.heading.proofs.TableLaws.{byte}
+use Rattle.parts.specs.Fields.{saidFields}
+use Rattle.parts.specs.Parts.{Columns, atStart}
+use Rattle.parts.proofs.Small.{small}
+use Rattle.parts.proofs.Judging.{judge-end, judge-bad, judge-next, judge-refused}
+use Rattle.parts.proofs.TableLaws.{byte}
 use Rattle.sets.specs.Bit.{Sized}
 use Rattle.models.specs.Shown.{Below, Ranged, Tabled, Claimed, allSeated, interpShown}
 use Rattle.models.specs.Told.{Tells}

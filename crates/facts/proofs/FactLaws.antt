@@ -20,10 +20,10 @@ use Rattle.alc.specs.Claims.{Sided}
 use Rattle.alc.specs.Model.{Fact, places, has, edge, factFields, repeats}
 use Rattle.alc.specs.Dossier.{size, fact, unread, facts, sayings, saying}
 use Rattle.alc.specs.Verdict.{rows}
-use Rattle.heading.specs.Fields.{saidFields}
-use Rattle.heading.proofs.Said.{said-part}
-use Rattle.heading.proofs.Small.{Small, small}
-use Rattle.heading.proofs.TableLaws.{byte}
+use Rattle.parts.specs.Fields.{saidFields}
+use Rattle.parts.proofs.Said.{said-part}
+use Rattle.parts.proofs.Small.{Small, small}
+use Rattle.parts.proofs.TableLaws.{byte}
 use Rattle.models.specs.Shown.{Below, PlaceSet, AtomSet, EdgeSet}
 use Rattle.models.specs.Told.{Tells}
 use Rattle.models.proofs.InRange.{in-range}

@@ -16,8 +16,8 @@ use Rattle.alc.specs.Ranges.{inRange}
 use Rattle.alc.specs.Model.{Fact, factFields}
 use Rattle.alc.specs.Dossier.{saying}
 use Rattle.alc.specs.Verdict.{refused, after, ending, modelled, judge}
-use Rattle.heading.specs.Fields.{saidFields}
-use Rattle.heading.proofs.Judging.{judge-end, judge-bad, judge-next, judge-refused}
+use Rattle.parts.specs.Fields.{saidFields}
+use Rattle.parts.proofs.Judging.{judge-end, judge-bad, judge-next, judge-refused}
 use Rattle.models.specs.Shown.{Below}
 use Rattle.models.specs.Told.{Tells}
 use Rattle.facts.specs.Asked.{inFacts, factIn, Stored}

@@ -16,7 +16,7 @@ use Rattle.alc.specs.Dossier as Dossier
 use Rattle.alc.specs.Shown.{claimsIn}
 use Rattle.alc.specs.declared.Goal.{Goal as Records}
 use Rattle.alc.specs.Verdict.{State, facts}
-use Rattle.heading.specs.Parts.{Columns}
+use Rattle.parts.specs.Parts.{Columns}
 use Rattle.models.specs.Told.{Tells}
 
 -- a place in the text behind so many lines, a table in columns, up to 64 claims with their numbers in range

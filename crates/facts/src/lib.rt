@@ -1,5 +1,5 @@
 // The model of a dossier: its size, and its facts line by line, told to the arrays of `models`; at the end the claims are judged by them.
-// Words and numbers come from `reading`, ranges from `heading`, and no byte is seen here.
+// Words and numbers come from `reading`, ranges from `parts`, and no byte is seen here.
 use alc::Answer;
 use alc::Atom;
 use alc::Element;
@@ -20,7 +20,7 @@ ghost use Rattle.alc.specs.Lists.{All};
 ghost use Rattle.alc.specs.Model.{Fact, factFields};
 ghost use Rattle.alc.specs.Shown.{claimsIn, answered, tableOf};
 ghost use Rattle.alc.specs.Verdict.{judge, modelled};
-ghost use Rattle.heading.specs.Parts.{atStart};
+ghost use Rattle.parts.specs.Parts.{atStart};
 ghost use Rattle.sets.specs.Bit.{Sized};
 ghost use Rattle.models.specs.Shown.{Below, Tabled, Claimed, seatsOf};
 ghost use Rattle.models.specs.Told.{Tells};
@@ -70,7 +70,7 @@ fn read_facts(
     loop {
         match reading::read(text, at, IN_FACTS) {
             Next::Found(l, next) => {
-                if !heading::ranged(l, entries, size) {
+                if !parts::ranged(l, entries, size) {
                     return Heard {
                         number: 3,
                         lines: n,
@@ -203,7 +203,7 @@ pub fn judge_model(
 {
     match reading::read(text, start, AT_SIZE) {
         Next::Found(l, next) => {
-            if !heading::ranged(l, entries, 0) {
+            if !parts::ranged(l, entries, 0) {
                 return Answer::Refused(3, before + 1);
             }
             let size = (l.n0 % 256) as u8;

@@ -14,8 +14,8 @@ use Rattle.alc.specs.Table.{Table}
 use Rattle.alc.specs.Claims.{Sided}
 use Rattle.alc.specs.Shown.{answered, Shows, tableOf}
 use Rattle.alc.specs.declared.Goal.{Goal as Records}
-use Rattle.heading.specs.Parts.{Columns, Kept}
-use Rattle.heading.proofs.Through.{through-judge, through-bounds}
+use Rattle.parts.specs.Parts.{Columns, Kept}
+use Rattle.parts.proofs.Through.{through-judge, through-bounds}
 use Rattle.states.specs.Standing.{begunOf, noCounts}
 use Rattle.states.specs.declared.State.{State}
 use Rattle.steps.specs.Acting.{Fits, Ready, from}

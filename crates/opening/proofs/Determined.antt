@@ -12,9 +12,9 @@ use Rattle.alc.specs.Shown.{answered, recordOf, records, tableOf}
 use Rattle.alc.specs.Verdict.{State as Judged}
 use Rattle.alc.specs.declared.Goal.{Goal as Records}
 use Rattle.alc.proofs.ShownLaws.{table-length}
-use Rattle.heading.specs.Parts.{SameAt}
-use Rattle.heading.proofs.Through.{both-last}
-use Rattle.heading.proofs.Determined.{columns-once}
+use Rattle.parts.specs.Parts.{SameAt}
+use Rattle.parts.proofs.Through.{both-last}
+use Rattle.parts.proofs.Determined.{columns-once}
 use Rattle.states.specs.Standing.{stateOf, begunOf}
 use Rattle.states.specs.declared.State.{State}
 use Rattle.opening.specs.Opened.{Begins, Decides, Opens}

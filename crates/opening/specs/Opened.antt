@@ -10,7 +10,7 @@ use Rattle.alc.specs.Claims.{Sided}
 use Rattle.alc.specs.Shown.{Shows, tableOf, answered}
 use Rattle.alc.specs.Verdict.{begin, verdict}
 use Rattle.alc.specs.declared.Answer.{Answer}
-use Rattle.heading.specs.Parts.{Columns, Kept, inSteps, Through}
+use Rattle.parts.specs.Parts.{Columns, Kept, inSteps, Through}
 use Rattle.states.specs.Standing.{begunOf}
 use Rattle.states.specs.declared.State.{State}
 use Rattle.steps.specs.Acting.{Fits}

@@ -77,7 +77,7 @@ pub fn opened(text: &[u8], records: usize) -> Opening
         return decided(Answer::Refused(h.number, h.lines + 1));
     }
     let claims = h.claims;
-    if h.section != heading::PROVES {
+    if h.section != parts::PROVES {
         return decided(facts::judge_model(
             text,
             h.at,

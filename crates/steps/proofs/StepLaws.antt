@@ -29,11 +29,11 @@ use Rattle.alc.proofs.ShownLaws.{table-length}
 use Rattle.goals.specs.declared.Turn.{Turn}
 use Rattle.goals.specs.Records.{stepOf, Ruling, Turns}
 use Rattle.goals.proofs.Steps.{ruleRows, Leaves, step-rows, number-shown, leaves-shown}
-use Rattle.heading.specs.Fields.{saidFields}
-use Rattle.heading.specs.Parts.{inSteps}
-use Rattle.heading.proofs.Said.{said-part}
-use Rattle.heading.proofs.Small.{Small, small}
-use Rattle.heading.proofs.TableLaws.{byte}
+use Rattle.parts.specs.Fields.{saidFields}
+use Rattle.parts.specs.Parts.{inSteps}
+use Rattle.parts.proofs.Said.{said-part}
+use Rattle.parts.proofs.Small.{Small, small}
+use Rattle.parts.proofs.TableLaws.{byte}
 use Rattle.steps.specs.Turning.{stepIn, rangeRow, TurnAt}
 
 -- the words that stand in the steps' place: a test of all words

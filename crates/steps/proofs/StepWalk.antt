@@ -32,8 +32,8 @@ use Rattle.goals.specs.declared.Turn.{Turn}
 use Rattle.goals.specs.Records.{added, premiseAt, Makes}
 use Rattle.goals.proofs.RecordLaws.{two-opens, comes-one}
 use Rattle.goals.proofs.Steps.{Leaves, none, one, two}
-use Rattle.heading.specs.Parts.{inSteps}
-use Rattle.heading.proofs.Judging.{judge-end, judge-bad, judge-next, judge-refused}
+use Rattle.parts.specs.Parts.{inSteps}
+use Rattle.parts.proofs.Judging.{judge-end, judge-bad, judge-next, judge-refused}
 use Rattle.states.specs.Standing.{stateOf, stoppedOf, passedOf, partedOf, lastOf, takenOf, closedOf, afterOf, verdictOf}
 use Rattle.states.specs.declared.State.{State}
 use Rattle.states.specs.declared.Act.{Act}

@@ -15,7 +15,7 @@ use Rattle.alc.specs.Shown.{Shows}
 use Rattle.alc.specs.Verdict.{Verdict, judge}
 use Rattle.alc.specs.declared.Goal.{Goal as Records}
 use Rattle.goals.specs.declared.Turn.{Turn}
-use Rattle.heading.specs.Parts.{Columns, inSteps}
+use Rattle.parts.specs.Parts.{Columns, inSteps}
 use Rattle.states.specs.Standing.{stoppedOf, passedOf, partedOf, closedOf}
 use Rattle.states.specs.declared.State.{State}
 use Rattle.states.specs.declared.Act.{Act}

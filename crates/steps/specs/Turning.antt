@@ -14,7 +14,7 @@ use Rattle.alc.specs.Rules.{Step, plan}
 use Rattle.alc.specs.Dossier.{saying}
 use Rattle.goals.specs.declared.Turn.{Turn}
 use Rattle.goals.specs.Records.{stepOf, ruling, Makes, Turns}
-use Rattle.heading.specs.Fields.{saidFields}
+use Rattle.parts.specs.Fields.{saidFields}
 
 -- the step that a line of the text is
 abbrev pub stepIn : Line → Step

@@ -20,7 +20,7 @@ ghost use Rattle.lines.specs.Text.{atSteps};
 ghost use Rattle.lines.specs.Walk.{stepsFrom, sizeFrom, readAt};
 ghost use Rattle.alc.specs.Table.{entry, entryOf};
 ghost use Rattle.alc.specs.Shown.{kindCount, kindAt, tableOf};
-ghost use Rattle.heading.specs.Parts.{Columns};
+ghost use Rattle.parts.specs.Parts.{Columns};
 ghost use Rattle.steps.specs.Turning.{TurnAt};
 ghost use Rattle.steps.specs.Acting.{Fits, Ready, ActAt};
 
@@ -68,7 +68,7 @@ fn turn_at(
     requires { ⌜ Columns (now kinds) (now firsts) (now seconds) entries × Fits (now kinds) (now firsts) (now seconds) entries × (stepsFrom ≤ l .word) × (l .word < sizeFrom) × (g .count ≤ 64) × (waiting ≤ 16) ⌝ }
     ensures { λ r. ⌜ TurnAt (tableOf (now (kinds .entry)) (now (firsts .entry)) (now (seconds .entry)) entries) entries l g waiting r ⌝ }
 {
-    if !heading::ranged(l, entries, 0) {
+    if !parts::ranged(l, entries, 0) {
         let none = alc::is(lines::NO_SIDE, Name(0), Concept(0));
         return Turn {
             number: 3,

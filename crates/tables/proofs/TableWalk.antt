@@ -26,11 +26,11 @@ use Rattle.alc.specs.Dossier.{concept, saying}
 use Rattle.alc.specs.Shown.{kindCount, kindAt, tableOf}
 use Rattle.alc.specs.Verdict.{rows, after, begin}
 use Rattle.alc.proofs.ShownLaws.{table-length, table-more}
-use Rattle.heading.specs.Fields.{saidFields}
-use Rattle.heading.specs.Parts.{entryIn, entryRows, inTable, Columns, Kept, Through, none, TableEnd, failed, TableRead}
-use Rattle.heading.proofs.Small.{Small, small}
-use Rattle.heading.proofs.Through.{through-next}
-use Rattle.heading.proofs.TableLaws.{entry-said, said-entry}
+use Rattle.parts.specs.Fields.{saidFields}
+use Rattle.parts.specs.Parts.{entryIn, entryRows, inTable, Columns, Kept, Through, none, TableEnd, failed, TableRead}
+use Rattle.parts.proofs.Small.{Small, small}
+use Rattle.parts.proofs.Through.{through-next}
+use Rattle.parts.proofs.TableLaws.{entry-said, said-entry}
 
 -- the judge's rows of a line of the table are those that are tested
 module _ (T : Table) (few : length T ≤ 256) (l : Line) (t : Told l) (w : l .word < claimsFrom) where

@@ -1,10 +1,10 @@
 // The table of a dossier, read line by line into three columns. Words and numbers come from `reading`, and no byte is seen here.
 use goals::Entry;
-use heading::Listed;
-use heading::ranged;
 use lines::IN_TABLE;
 use lines::Line;
 use lines::Next;
+use parts::Listed;
+use parts::ranged;
 ghost use mathlib.Core.Path.{_≡_};
 ghost use Prim.Native.Nat.{ℕ, _<_, _≤_, _%_};
 ghost use lib.ListN.{length, getD, set};
@@ -14,7 +14,7 @@ ghost use Rattle.alc.specs.Rows.{refusal};
 ghost use Rattle.alc.specs.Table.{entryOf, stands as standsIn};
 ghost use Rattle.lines.specs.Walk.{claimsFrom};
 ghost use Rattle.alc.specs.Shown.{kindCount, kindAt, tableOf};
-ghost use Rattle.heading.specs.Parts.{entryRows, TableRead};
+ghost use Rattle.parts.specs.Parts.{entryRows, TableRead};
 
 // The line of the table that a line of the text is.
 fn made_entry(l: Line) -> Entry

@@ -15,7 +15,7 @@ use Rattle.reading.proofs.Loop.{Line-found, when-found}
 use Rattle.lines.proofs.Told.{Told, told}
 use Rattle.alc.specs.Table.{Table}
 use Rattle.goals.proofs.RecordLaws.{with-more, with-count}
-use Rattle.heading.specs.Parts.{ClaimsEnd, wrong, over, ClaimsRead}
+use Rattle.parts.specs.Parts.{ClaimsEnd, wrong, over, ClaimsRead}
 use Rattle.claims.proofs.ClaimWalk.{Walk, walk-begin, walk-more, stops, fails, turns, room, stands-among}
 use Rattle.claims.proofs.read_claims.Statement.{statement}
 use Rattle.claims.proofs.read_claims.Tie as tie

@@ -15,7 +15,7 @@ use Rattle.alc.specs.Lists.{every}
 use Rattle.alc.specs.Ranges.{inRange}
 use Rattle.alc.specs.Dossier.{saying}
 use Rattle.alc.specs.Verdict.{refused}
-use Rattle.heading.specs.Fields.{saidFields}
+use Rattle.parts.specs.Fields.{saidFields}
 use Rattle.facts.specs.Read.{Judged, FactsRead}
 use Rattle.facts.proofs.FactLaws.{found-told}
 use Rattle.facts.proofs.FactWalk.{Walk, walk-begin, walk-more, line-small, line-fits, stops-bad, stops-end, stops-ranges, stops-repeat}

@@ -17,9 +17,9 @@ use Rattle.alc.specs.Table.{Table}
 use Rattle.alc.specs.Shown.{tableOf, sidedOf, claimsIn}
 use Rattle.alc.specs.Verdict.{refused, judge as judgeFrom, begin, verdict}
 use Rattle.alc.proofs.ShownLaws.{table-length, all-back}
-use Rattle.heading.specs.Parts.{inClaims, atStart, TableRead, ClaimsRead}
-use Rattle.heading.proofs.Through.{through-judge, through-bounds}
-use Rattle.heading.proofs.Stops.{table-refused, table-left, table-then, table-behind, table-apart, claims-bounds, claims-refused, claims-proof, claims-model, claims-apart}
+use Rattle.parts.specs.Parts.{inClaims, atStart, TableRead, ClaimsRead}
+use Rattle.parts.proofs.Through.{through-judge, through-bounds}
+use Rattle.parts.proofs.Stops.{table-refused, table-left, table-then, table-behind, table-apart, claims-bounds, claims-refused, claims-proof, claims-model, claims-apart}
 use Rattle.opening.specs.Opened.{noColumn, followingOf, Follows}
 use Rattle.opening.proofs.Begins.{verdict-narrow, verdict-long, verdict-short, opens-decided, opens-following}
 use Rattle.opening.proofs.opened.Statement.{statement}

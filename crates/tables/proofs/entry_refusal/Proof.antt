@@ -14,9 +14,9 @@ use Rattle.alc.specs.Table.{entryOf, stands}
 use Rattle.alc.specs.Dossier.{saying}
 use Rattle.alc.specs.Shown.{kindAt, tableOf}
 use Rattle.alc.proofs.ShownLaws.{table-length}
-use Rattle.heading.specs.Fields.{saidFields}
-use Rattle.heading.specs.Parts.{entryIn}
-use Rattle.heading.proofs.TableLaws.{entry-5, entry-3, entry-4, entry-0}
+use Rattle.parts.specs.Fields.{saidFields}
+use Rattle.parts.specs.Parts.{entryIn}
+use Rattle.parts.proofs.TableLaws.{entry-5, entry-3, entry-4, entry-0}
 use Rattle.tables.proofs.entry_refusal.Statement.{statement}
 use Rattle.tables.proofs.entry_refusal.Tie as tie
 

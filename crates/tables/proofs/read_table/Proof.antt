@@ -13,7 +13,7 @@ use Rattle.lines.specs.declared.Next.the-variants.{Found}
 use Rattle.reading.proofs.Loop.{when-found}
 use Rattle.alc.specs.Rows.{refusal}
 use Rattle.alc.specs.Shown.{tableOf}
-use Rattle.heading.specs.Parts.{entryRows, wrong, other, over}
+use Rattle.parts.specs.Parts.{entryRows, wrong, other, over}
 use Rattle.tables.proofs.TableWalk.{Walk, walk-begin, walk-stored, stops, fails, room}
 use Rattle.tables.proofs.read_table.Statement.{statement}
 use Rattle.tables.proofs.read_table.Tie as tie

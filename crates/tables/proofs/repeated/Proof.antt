@@ -11,7 +11,7 @@ use borrow.Author.Needs.{needs}
 use borrow.Author.Tests.{lt-ltb}
 use Rattle.alc.specs.Table.{entryOf, stands}
 use Rattle.alc.specs.Shown.{kindAt, tableOf}
-use Rattle.heading.proofs.TableLaws.{entry-same, stands-more}
+use Rattle.parts.proofs.TableLaws.{entry-same, stands-more}
 use Rattle.tables.proofs.repeated.Statement.{statement}
 use Rattle.tables.proofs.repeated.Tie as tie
 

@@ -1,4 +1,4 @@
--- `heading::ranged` meets its contract: what an arm says of its words' numbers is so in the table of words, and what the last says is so of all others.
+-- `parts::ranged` meets its contract: what an arm says of its words' numbers is so in the table of words, and what the last says is so of all others.
 -- Assumes nothing.
 use Prim.Native.Nat.{ℕ}
 use Prim.Native.String.{String}
@@ -17,10 +17,10 @@ use Rattle.alc.specs.Ranges.{inRange}
 use Rattle.alc.specs.Rules.{stepFields}
 use Rattle.alc.specs.Dossier.{unread, sayings, saying}
 use Rattle.alc.proofs.Arms.{others}
-use Rattle.heading.specs.Fields.{saidFields, kindOf, fieldsBy, kindsAt}
-use Rattle.heading.proofs.FieldLaws.{isOf, fields-of}
-use Rattle.heading.proofs.ranged.Statement.{statement}
-use Rattle.heading.proofs.ranged.Tie as tie
+use Rattle.parts.specs.Fields.{saidFields, kindOf, fieldsBy, kindsAt}
+use Rattle.parts.proofs.FieldLaws.{isOf, fields-of}
+use Rattle.parts.proofs.ranged.Statement.{statement}
+use Rattle.parts.proofs.ranged.Tie as tie
 
 -- the words of the arms, those of the last arm first
 abbrev arms : List (List String)

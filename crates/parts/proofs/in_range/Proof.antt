@@ -1,4 +1,4 @@
--- `heading::in_range` meets its contract, a kind at a time. Assumes nothing.
+-- `parts::in_range` meets its contract, a kind at a time. Assumes nothing.
 use Prim.Native.Nat.{ℕ, zero, suc}
 use mathlib.Core.Bool.{Bool, true, _&&_, and-true}
 use mathlib.Core.Path.{_≡_, refl, sym, ap, _∙_}
@@ -7,9 +7,9 @@ use borrow.Author.Needs.{needs}
 use Rattle.lines.proofs.Laws.{None, none-from}
 use Rattle.alc.specs.Lists.{every}
 use Rattle.alc.specs.Ranges.{inRange}
-use Rattle.heading.specs.Fields.{fieldBy}
-use Rattle.heading.proofs.in_range.Statement.{statement}
-use Rattle.heading.proofs.in_range.Tie as tie
+use Rattle.parts.specs.Fields.{fieldBy}
+use Rattle.parts.proofs.in_range.Statement.{statement}
+use Rattle.parts.proofs.in_range.Tie as tie
 
 -- the one field of a kind
 one : (e d n k j : ℕ) (b : Bool) → k ≡ j → (b && true) ≡ every (inRange e d) (fieldBy j n) → b ≡ every (inRange e d) (fieldBy k n)

@@ -24,11 +24,11 @@ use Rattle.alc.specs.Dossier.{Said, concept, claim, proof, model, step, size, f
 use Rattle.alc.specs.Shown.{tableOf}
 use Rattle.alc.proofs.ShownLaws.{table-length}
 use Rattle.alc.specs.Verdict.{State, refused, place, begin, rows, after, ending, judge}
-use Rattle.heading.specs.declared.Listed.{Listed}
-use Rattle.heading.specs.Parts.{inTable, inClaims, inSteps, atStart, Through, none, line, TableEnd, ClaimsEnd, ClaimsLead, TableRead}
-use Rattle.heading.specs.Parts
-use Rattle.heading.proofs.Judging.{next, judge-end, judge-bad, judge-refused, unrolled}
-use Rattle.heading.proofs.Through.{Stuck, found-same, stage, through-then, through-judge, through-bounds, through-either, through-behind, both-last, apart}
+use Rattle.parts.specs.declared.Listed.{Listed}
+use Rattle.parts.specs.Parts.{inTable, inClaims, inSteps, atStart, Through, none, line, TableEnd, ClaimsEnd, ClaimsLead, TableRead}
+use Rattle.parts.specs.Parts
+use Rattle.parts.proofs.Judging.{next, judge-end, judge-bad, judge-refused, unrolled}
+use Rattle.parts.proofs.Through.{Stuck, found-same, stage, through-then, through-judge, through-bounds, through-either, through-behind, both-last, apart}
 
 -- A LINE AT TWO PLACES: where its word is allowed, it is found
 module _ (p q : ℕ) (l : Line) (a : stands q l ≡ true) where

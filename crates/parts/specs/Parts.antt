@@ -21,9 +21,9 @@ use Rattle.alc.specs.Dossier as Dossier
 use Rattle.alc.specs.Dossier.{sided, saying}
 use Rattle.alc.specs.Shown.{kindCount, kindAt, tableOf, Shows}
 use Rattle.alc.specs.Verdict.{State, table, claims, steps, start, place, begin, rows, after}
-use Rattle.heading.specs.declared.Listed.{Listed}
-use Rattle.heading.specs.declared.Heading.{Heading}
-use Rattle.heading.specs.Fields.{saidFields}
+use Rattle.parts.specs.declared.Listed.{Listed}
+use Rattle.parts.specs.declared.Heading.{Heading}
+use Rattle.parts.specs.Fields.{saidFields}
 
 -- the line of the table that a line of the text is
 abbrev pub entryIn : Line → Entry

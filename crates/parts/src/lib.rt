@@ -10,7 +10,7 @@ ghost use lib.Dec.{leb};
 ghost use Rattle.alc.specs.Lists.{every};
 ghost use Rattle.alc.specs.Ranges.{inRange};
 ghost use Rattle.alc.specs.Dossier.{saying};
-ghost use Rattle.heading.specs.Fields.{saidFields, fieldBy, fieldsBy};
+ghost use Rattle.parts.specs.Fields.{saidFields, fieldBy, fieldsBy};
 
 // What a number of a line is a number of, 0 where it is not said.
 const NONE: u8 = 0;

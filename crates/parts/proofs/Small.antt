@@ -15,8 +15,8 @@ use Rattle.alc.specs.Meaning.{everyBelow}
 use Rattle.alc.specs.Rules.{stepFields}
 use Rattle.alc.specs.Dossier.{saying}
 use Rattle.alc.proofs.Logic.{and-left, and-right, every-true}
-use Rattle.heading.specs.Fields.{saidFields, fieldBy, kindsAt}
-use Rattle.heading.proofs.FieldLaws.{fields-at, ranges-of}
+use Rattle.parts.specs.Fields.{saidFields, fieldBy, kindsAt}
+use Rattle.parts.proofs.FieldLaws.{fields-at, ranges-of}
 
 -- the kind is one of a field
 abbrev isField : ℕ → Bool

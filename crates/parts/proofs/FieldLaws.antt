@@ -13,7 +13,7 @@ use Rattle.alc.specs.Ranges.{Field, inRange}
 use Rattle.alc.specs.Rules.{stepFields}
 use Rattle.alc.specs.Dossier.{Said, unread, sayings, saying}
 use Rattle.alc.proofs.Logic.{and-left, and-right}
-use Rattle.heading.specs.Fields.{saidFields, kindOf, fieldBy, fieldsBy, kindsAt}
+use Rattle.parts.specs.Fields.{saidFields, kindOf, fieldBy, fieldsBy, kindsAt}
 
 -- the fields of these kinds, of which there are three at most
 abbrev filled : List ℕ → ℕ → ℕ → ℕ → List Field

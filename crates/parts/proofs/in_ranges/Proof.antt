@@ -1,10 +1,10 @@
--- `heading::in_ranges` meets its contract, by its three tests. Assumes nothing.
+-- `parts::in_ranges` meets its contract, by its three tests. Assumes nothing.
 use mathlib.Core.Path.{sym, _∙_}
 use borrow.Author.Needs.{needs}
 use borrow.Author.Tests.{not-true, not-false}
-use Rattle.heading.proofs.FieldLaws.{ranges-of}
-use Rattle.heading.proofs.in_ranges.Statement.{statement}
-use Rattle.heading.proofs.in_ranges.Tie as tie
+use Rattle.parts.proofs.FieldLaws.{ranges-of}
+use Rattle.parts.proofs.in_ranges.Statement.{statement}
+use Rattle.parts.proofs.in_ranges.Tie as tie
 
 returns : tie.Need-returns
 returns c = sym (ranges-of _ _ _ _ _ _ _ _ ∙ rw (sym (c .before .in-range .ensures) ∙ not-true _ (c .if1 .taken)))

@@ -1,8 +1,8 @@
--- `heading::in_size` meets its contract, by its two tests. Assumes nothing.
+-- `parts::in_size` meets its contract, by its two tests. Assumes nothing.
 use mathlib.Core.Path.{sym}
 use borrow.Author.Tests.{lt-leb, le-leb}
-use Rattle.heading.proofs.in_size.Statement.{statement}
-use Rattle.heading.proofs.in_size.Tie as tie
+use Rattle.parts.proofs.in_size.Statement.{statement}
+use Rattle.parts.proofs.in_size.Tie as tie
 
 returns : tie.Need-returns
 returns c = sym (rw (lt-leb 1 (c .before .args .n) (c .if1 .taken)))

@@ -21,8 +21,8 @@ use Rattle.alc.specs.Meaning.{everyBelow}
 use Rattle.alc.specs.Dossier.{unread, sayings, saying}
 use Rattle.alc.specs.Verdict.{Part, table, claims, steps, start, facts, State, place, rows, after, judge}
 use Rattle.alc.proofs.Logic.{every-true}
-use Rattle.heading.specs.Parts.{Through, none, line}
-use Rattle.heading.proofs.Judging.{judge-next}
+use Rattle.parts.specs.Parts.{Through, none, line}
+use Rattle.parts.proofs.Judging.{judge-next}
 
 -- no line that passes stands at the position
 abbrev pub Stuck : List ℕ → ℕ → State → Type 0

@@ -22,9 +22,9 @@ use Rattle.alc.proofs.ShownLaws.{lineAt}
 use Rattle.alc.proofs.ListFacts.{any-more}
 use Rattle.goals.proofs.RecordLaws.{kind-same}
 use Rattle.goals.proofs.Steps.{eqb-turn}
-use Rattle.heading.specs.Fields.{saidFields}
-use Rattle.heading.specs.Parts.{entryIn, entryRows}
-use Rattle.heading.proofs.Small.{Small}
+use Rattle.parts.specs.Fields.{saidFields}
+use Rattle.parts.specs.Parts.{entryIn, entryRows}
+use Rattle.parts.proofs.Small.{Small}
 
 pub entry-same : (k x y j u v : ℕ) → k < kindCount → j < kindCount → (eqb k j && (eqb x u && eqb y v)) ≡ sameEntry (entryOf (kindAt k) x y) (entryOf (kindAt j) u v)
 entry-same k x y j u v h l = sym (and-assoc (eqb k j) (eqb x u) (eqb y v)) ∙ ap (λ b. (b && eqb x u) && eqb y v) (eqb-turn k j ∙ kind-same j k l h)

@@ -25,12 +25,12 @@ use Rattle.alc.specs.Shown.{recordOf, records, tableOf, kindAt}
 use Rattle.alc.specs.Verdict.{State, place, rows}
 use Rattle.alc.proofs.ShownLaws.{lineAt, table-length, table-at}
 use Rattle.goals.proofs.RecordLaws.{kind-same}
-use Rattle.heading.specs.declared.Listed.{Listed}
-use Rattle.heading.specs.declared.Heading.{Heading}
-use Rattle.heading.specs.Parts.{inTable, inClaims, Through, none, line, TableEnd, ClaimsEnd, ClaimsLead, SameAt, TableRead, ClaimsRead, Columns}
-use Rattle.heading.specs.Parts
-use Rattle.heading.proofs.Through.{Stuck, found-same, stage, Same, turn, out-of-table, through-on, through-either, both-last, both-stuck, apart}
-use Rattle.heading.proofs.Stops.{in-claims, claims-halts, claims-apart}
+use Rattle.parts.specs.declared.Listed.{Listed}
+use Rattle.parts.specs.declared.Heading.{Heading}
+use Rattle.parts.specs.Parts.{inTable, inClaims, Through, none, line, TableEnd, ClaimsEnd, ClaimsLead, SameAt, TableRead, ClaimsRead, Columns}
+use Rattle.parts.specs.Parts
+use Rattle.parts.proofs.Through.{Stuck, found-same, stage, Same, turn, out-of-table, through-on, through-either, both-last, both-stuck, apart}
+use Rattle.parts.proofs.Stops.{in-claims, claims-halts, claims-apart}
 
 -- columns with the same table have the same numbers in its lines, since the kinds of a line are one for each number
 pub columns-once : {ks xs ys us vs ws : List ℕ} {n m : ℕ} → Columns ks xs ys n → Columns us vs ws m → tableOf ks xs ys n ≡ tableOf us vs ws m
