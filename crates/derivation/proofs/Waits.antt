@@ -15,7 +15,7 @@ use Rattle.alc.specs.declared.Claim.{Claim as Record}
 use Rattle.alc.specs.declared.Goal.{Goal as Records}
 use Rattle.shelf.specs.Stored.{blanks, stored, fetched, goalOf}
 use Rattle.shelf.proofs.Back.{copied-else, copied-same, fetched-stored}
-use Rattle.states.specs.Standing.{secondOf, After, Aside}
+use Rattle.states.specs.Standing.{asksStore, asksFetch, secondOf, After, Aside}
 use Rattle.states.specs.declared.State.{State}
 use Rattle.states.specs.declared.Act.{Act}
 use Rattle.steps.specs.Acting.{Ready, from}
@@ -76,7 +76,7 @@ module _ (text ks xs ys : List ℕ) (entries : ℕ) (l : List Record) (s : State
   on : {cs : List Sided} {w : Verdict} {m : List Record} {r : State} → r .ended ≡ false → Stands T cs text w m r → Behind T cs text w m r
   on e st = record { there = λ f. absurd (false≢true (sym e ∙ f)); stands = λ _. st }
 
-  pub rests : (a .kind ≡ 1 → ⊥) → (a .kind ≡ 2 → ⊥) → Stepped text ks xs ys entries l s l n
+  pub rests : (a .kind ≡ asksStore → ⊥) → (a .kind ≡ asksFetch → ⊥) → Stepped text ks xs ys entries l s l n
   rests not1 not2 = record { ready = d .ready; after = led l n go }
     where
       go : Goes l n
@@ -87,7 +87,7 @@ module _ (text ks xs ys : List ℕ) (entries : ℕ) (l : List Record) (s : State
       go cs w (x ∷ []) o q so (Leading.closes _ k e p h) = on e (record { goals = []; count = p; current = tt; waiting = tt; so = so ∙ h })
       go cs w (x ∷ y ∷ hs) o q so (Leading.takes _ _ _ k e p b n c h) = absurd (not2 k)
 
-  pub stores : After s a n → (g : Records) (m : List Record) → Aside n a g → a .kind ≡ 1 → m ≡ stored l (a .base) (g .claims) (g .count) → Stepped text ks xs ys entries l s m n
+  pub stores : After s a n → (g : Records) (m : List Record) → Aside n a g → a .kind ≡ asksStore → m ≡ stored l (a .base) (g .claims) (g .count) → Stepped text ks xs ys entries l s m n
   stores f g m h is1 e = record { ready = d .ready; after = led m n go }
     where
       held : (y : Goal) (hs : List Goal) → s .open ≡ suc (length hs) → n .ended ≡ false → n .open ≡ s .open + 1 → a .base ≡ length hs * 64
@@ -107,7 +107,7 @@ module _ (text ks xs ys : List ℕ) (entries : ℕ) (l : List Record) (s : State
       go cs w (x ∷ []) o q so (Leading.closes _ k f p h) = absurd (omega (arith, k, is1))
       go cs w (x ∷ y ∷ hs) o q so (Leading.takes _ _ _ k f p b n c h) = absurd (omega (arith, k, is1))
 
-  pub fetches : a .kind ≡ 2 → n .goal ≡ goalOf (fetched l (a .base) (a .count)) (a .count) → Stepped text ks xs ys entries l s l n
+  pub fetches : a .kind ≡ asksFetch → n .goal ≡ goalOf (fetched l (a .base) (a .count)) (a .count) → Stepped text ks xs ys entries l s l n
   fetches is2 e = record { ready = d .ready; after = led l n go }
     where
       go : Goes l n

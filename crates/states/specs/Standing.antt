@@ -34,10 +34,22 @@ begunOf claims at lines = stateOf claims noCounts 1 0 lines at false 0
 abbrev pub idleOf : ℕ → Turn
 idleOf n = record { number = 0; opens = 0; at = n; kept = n; leaves = 0; first = recordBy 0 (is 0 0); second = recordBy 0 (is 0 0) }
 
+-- what an act asks of the room: nothing,
+abbrev pub asksNothing : ℕ
+asksNothing = 0
+
+-- that a goal is stored,
+abbrev pub asksStore : ℕ
+asksStore = 1
+
+-- or that one is fetched
+abbrev pub asksFetch : ℕ
+asksFetch = 2
+
 -- the verdict k with its line
 abbrev pub stoppedOf : State → ℕ → ℕ → Act
 stoppedOf s k line =
-    record { kind = 0; base = 0; count = 0; turn = idleOf (s .goal .count); «open» = s .open; steps = s .steps; lines = line; at = s .at; ended = true; number = k }
+    record { kind = asksNothing; base = 0; count = 0; turn = idleOf (s .goal .count); «open» = s .open; steps = s .steps; lines = line; at = s .at; ended = true; number = k }
 
 -- one step more, with its turn t, and the text read up to another place: what is asked of the room, and how many goals are open
 abbrev pub passedOf : State → Turn → ℕ → ℕ → ℕ → ℕ → ℕ → ℕ → Act
@@ -46,15 +58,15 @@ passedOf s t line at kind base count opened =
 
 -- the first of two premises is current, and the second is stored
 abbrev pub partedOf : State → Turn → ℕ → ℕ → Act
-partedOf s t line at = passedOf s t line at 1 ((s .open - 1) * 64) (t .kept + 1) (s .open + 1)
+partedOf s t line at = passedOf s t line at asksStore ((s .open - 1) * 64) (t .kept + 1) (s .open + 1)
 
 -- the last goal is closed
 abbrev pub lastOf : State → Turn → ℕ → ℕ → Act
-lastOf s t line at = passedOf s t line at 0 0 0 (s .open - 1)
+lastOf s t line at = passedOf s t line at asksNothing 0 0 (s .open - 1)
 
 -- the goal that was put aside last is fetched
 abbrev pub takenOf : State → Turn → ℕ → ℕ → Act
-takenOf s t line at = passedOf s t line at 2 ((s .open - 1 - 1) * 64) (getD (s .counts) (s .open - 1 - 1) 0) (s .open - 1)
+takenOf s t line at = passedOf s t line at asksFetch ((s .open - 1 - 1) * 64) (getD (s .counts) (s .open - 1 - 1) 0) (s .open - 1)
 
 -- the current goal is closed
 abbrev pub closedOf : State → Turn → ℕ → ℕ → Act
@@ -63,7 +75,7 @@ closedOf s t line at = cond (eqb (s .open - 1) 0) (lastOf s t line at) (takenOf 
 -- the state behind the act a at the state s, with the current goal g; where a goal is put aside its place has its count
 abbrev pub afterOf : State → Act → Records → State
 afterOf s a g =
-    stateOf g (cond (eqb (a .kind) 1) (set (s .counts) (s .open - 1) (a .count)) (s .counts)) (a .open) (a .steps) (a .lines) (a .at) (a .ended) (a .number)
+    stateOf g (cond (eqb (a .kind) asksStore) (set (s .counts) (s .open - 1) (a .count)) (s .counts)) (a .open) (a .steps) (a .lines) (a .at) (a .ended) (a .number)
 
 -- the records of the second premise of the act a at the state s
 abbrev pub secondOf : State → Act → List Record

@@ -8,7 +8,7 @@ use goals::Turn;
 ghost use mathlib.Core.Path.{_≡_};
 ghost use Prim.Native.Nat.{_<_, _≤_};
 ghost use Rattle.goals.specs.Records.{Makes};
-ghost use Rattle.states.specs.Standing.{begunOf, idleOf, stoppedOf, passedOf, partedOf, closedOf, afterOf, After, Aside};
+ghost use Rattle.states.specs.Standing.{asksStore, begunOf, idleOf, stoppedOf, passedOf, partedOf, closedOf, afterOf, After, Aside};
 
 // Where a derivation stands: the current goal, how many claims each goal that waits has, and how far the text is read.
 pub struct State {
@@ -154,7 +154,7 @@ pub fn closed(s: State, t: Turn, line: usize, at: usize) -> Act
 
 // The state behind the act a at the state s, with its current goal. Where a goal is put aside its place has its count.
 pub fn behind(s: State, a: Act, goal: Goal) -> State
-    requires { ⌜ (a .kind ≡ 1 → (0 < s .open) × (s .open ≤ 16)) ⌝ }
+    requires { ⌜ (a .kind ≡ asksStore → (0 < s .open) × (s .open ≤ 16)) ⌝ }
     ensures { λ r. ⌜ r ≡ afterOf s a goal ⌝ }
 {
     let mut counts = s.counts;
@@ -176,7 +176,7 @@ pub fn behind(s: State, a: Act, goal: Goal) -> State
 
 // The state behind an act that fetches no goal: the turn's first premise is the current one.
 pub fn after(s: State, a: Act) -> State
-    requires { ⌜ (s .goal .count ≤ 64) × Makes (a .turn) (s .goal) × (a .kind ≡ 1 → (0 < s .open) × (s .open ≤ 16)) ⌝ }
+    requires { ⌜ (s .goal .count ≤ 64) × Makes (a .turn) (s .goal) × (a .kind ≡ asksStore → (0 < s .open) × (s .open ≤ 16)) ⌝ }
     ensures { λ r. ⌜ After s a r ⌝ }
 {
     let goal = s.goal;

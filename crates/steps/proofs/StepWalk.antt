@@ -34,7 +34,7 @@ use Rattle.goals.proofs.RecordLaws.{two-opens, comes-one}
 use Rattle.goals.proofs.Steps.{Leaves, none, one, two}
 use Rattle.parts.specs.Parts.{inSteps}
 use Rattle.parts.proofs.Judging.{judge-end, judge-bad, judge-next, judge-refused}
-use Rattle.states.specs.Standing.{stateOf, stoppedOf, passedOf, partedOf, lastOf, takenOf, closedOf, afterOf, verdictOf}
+use Rattle.states.specs.Standing.{asksFetch, stateOf, stoppedOf, passedOf, partedOf, lastOf, takenOf, closedOf, afterOf, verdictOf}
 use Rattle.states.specs.declared.State.{State}
 use Rattle.states.specs.declared.Act.{Act}
 use Rattle.steps.specs.Turning.{stepIn, TurnAt}
@@ -66,7 +66,7 @@ module _ (text ks xs ys : List ℕ) (entries : ℕ) (s : State) (v : Ready text 
 
   -- an act is described by where it leads with any goal that is the first premise, or with any at all where it fetches one
   abbrev Behind : Act → Type 0
-  Behind a = (g : Records) → g .count ≤ 64 → ((a .kind ≡ 2 → ⊥) → First a g) → Leads text ks xs ys entries s a (afterOf s a g)
+  Behind a = (g : Records) → g .count ≤ 64 → ((a .kind ≡ asksFetch → ⊥) → First a g) → Leads text ks xs ys entries s a (afterOf s a g)
 
   behind : (a : Act) → Behind a → (n : State) → Next s a n → Leads text ks xs ys entries s a n
   behind a h n f = subst (Leads text ks xs ys entries s a) (sym (f .is)) (h (n .goal) (f .small) (λ no. let p = f .premise no in (p .goal, p .count)))

@@ -16,7 +16,7 @@ use Rattle.alc.specs.Verdict.{Verdict, judge}
 use Rattle.alc.specs.declared.Goal.{Goal as Records}
 use Rattle.goals.specs.declared.Turn.{Turn}
 use Rattle.parts.specs.Parts.{Columns, inSteps}
-use Rattle.states.specs.Standing.{stoppedOf, passedOf, partedOf, closedOf}
+use Rattle.states.specs.Standing.{asksNothing, stoppedOf, passedOf, partedOf, closedOf}
 use Rattle.states.specs.declared.State.{State}
 use Rattle.states.specs.declared.Act.{Act}
 use Rattle.steps.specs.Turning.{TurnAt}
@@ -50,7 +50,7 @@ from T cs text s gs = judge (s .lines) (inSteps T cs (s .steps) gs) (linesOf (dr
 -- premises it leaves
 abbrev pub turnedBy : State → Turn → ℕ → ℕ → ℕ → Act
 turnedBy s t to zero zero = closedOf s t (s .lines + 1) to
-turnedBy s t to zero (suc zero) = passedOf s t (s .lines + 1) to 0 0 0 (s .open)
+turnedBy s t to zero (suc zero) = passedOf s t (s .lines + 1) to asksNothing 0 0 (s .open)
 turnedBy s t to zero (suc (suc n)) = partedOf s t (s .lines + 1) to
 turnedBy s t to (suc k) n = stoppedOf s (suc k) (s .lines + 1)
 

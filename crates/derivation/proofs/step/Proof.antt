@@ -21,7 +21,7 @@ use Rattle.shelf.proofs.Goals as SC
 use Rattle.shelf.specs.Stored.{stored, fetched, goalOf}
 use Rattle.alc.specs.declared.Claim.{Claim}
 use Rattle.alc.specs.declared.Goal.{Goal}
-use Rattle.states.specs.Standing.{afterOf, After, Aside}
+use Rattle.states.specs.Standing.{asksStore, asksFetch, afterOf, After, Aside}
 use Rattle.states.specs.declared.State.{State}
 use Rattle.states.specs.declared.Act.{Act}
 use Rattle.steps.specs.Acting.{Ready}
@@ -39,10 +39,10 @@ use Rattle.derivation.proofs.step.Code as code
 -- the laws of Waits, at what the functions by value give
 module _ (text ks xs ys : List ℕ) (entries : ℕ) (l : List Claim) (s : State) (pre : (1088 ≤ length l) × Ready text ks xs ys entries s) (a : Act) (d : Acted text ks xs ys entries s a) where
   -- what is fetched is within the room
-  part : a .kind ≡ 2 → (a .count ≤ 64) × (a .base + a .count ≤ length l)
+  part : a .kind ≡ asksFetch → (a .count ≤ 64) × (a .base + a .count ≤ length l)
   part is2 = let h = d .fetches is2 in (h .0, omega (arith, h .0, h .1, pre .0))
 
-  fetching : a .kind ≡ 2 → (g : Goal) (r : State) → g ≡ goalOf (fetched l (a .base) (a .count)) (a .count) → r ≡ afterOf s a g → Stepped text ks xs ys entries l s l r
+  fetching : a .kind ≡ asksFetch → (g : Goal) (r : State) → g ≡ goalOf (fetched l (a .base) (a .count)) (a .count) → r ≡ afterOf s a g → Stepped text ks xs ys entries l s l r
   fetching is2 g r here er =
       let small : g .count ≤ 64 = omega (arith, ap (λ (h : Goal). h .count) here, d .fetches is2 .0) in
       let next : Next s a (afterOf s a g) = record { is = refl; small = small; premise = λ no. absurd (no is2) } in
@@ -54,17 +54,17 @@ module _ (text ks xs ys : List ℕ) (entries : ℕ) (l : List Claim) (s : State)
     there = d .leads n (record { is = f .is; small = f .small; premise = λ _. f })
 
     -- the second premise can be made
-    second : a .kind ≡ 1 → (0 < n .goal .count) × (n .goal .count ≤ 64)
+    second : a .kind ≡ asksStore → (0 < n .goal .count) × (n .goal .count ≤ 64)
     second is1 = let h = there .stores is1 in (h .0, h .1)
 
     -- what is stored is within the room
-    place : a .kind ≡ 1 → (g : Goal) → Aside n a g → (g .count ≤ 64) × (a .base + g .count ≤ length l)
+    place : a .kind ≡ asksStore → (g : Goal) → Aside n a g → (g .count ≤ 64) × (a .base + g .count ≤ length l)
     place is1 g h = let k = there .stores is1 in (omega (arith, k .1, h .count), omega (arith, k .1, k .3, h .count, pre .0))
 
-    storing : a .kind ≡ 1 → (g : Goal) (m : List Claim) → Aside n a g → m ≡ stored l (a .base) (g .claims) (g .count) → Stepped text ks xs ys entries l s m n
+    storing : a .kind ≡ asksStore → (g : Goal) (m : List Claim) → Aside n a g → m ≡ stored l (a .base) (g .claims) (g .count) → Stepped text ks xs ys entries l s m n
     storing is1 g m h em = stores text ks xs ys entries l s (pre .0) (pre .1) a n there f g m h is1 em
 
-    resting : (a .kind ≡ 1 → ⊥) → (a .kind ≡ 2 → ⊥) → Stepped text ks xs ys entries l s l n
+    resting : (a .kind ≡ asksStore → ⊥) → (a .kind ≡ asksFetch → ⊥) → Stepped text ks xs ys entries l s l n
     resting not1 not2 = rests text ks xs ys entries l s (pre .0) (pre .1) a n there not1 not2
 
 module _ (w : World) (store : Knows (fun SC.store) w code.env) (fetch : Knows (fun SC.fetch) w code.env) (act-at : Knows F.act-at w code.env) (after : Knows F.after w code.env) (aside : Knows F.aside w code.env) (behind : Knows F.behind w code.env) where
@@ -102,7 +102,7 @@ module _ (w : World) (store : Knows (fun SC.store) w code.env) (fetch : Knows (f
     λ a. let d : Acted (text .now) (kinds .now) (firsts .now) (seconds .now) entries s (a .1) = acted (text .now) (kinds .now) (firsts .now) (seconds .now) entries s (pre .1) (a .1) (a .5) in (
       tt,
       (
-        λ test. let is1 : a .1 .kind ≡ 1 = eqb-true (a .1 .kind) 1 test in (
+        λ test. let is1 : a .1 .kind ≡ asksStore = eqb-true (a .1 .kind) asksStore test in (
           λ _. d .makes,
           λ next γ. (
             refl,
@@ -118,10 +118,10 @@ module _ (w : World) (store : Knows (fun SC.store) w code.env) (fetch : Knows (f
             ),
           ),
         ),
-        λ test. let not1 : a .1 .kind ≡ 1 → ⊥ = eqb-false (a .1 .kind) 1 test in (
+        λ test. let not1 : a .1 .kind ≡ asksStore → ⊥ = eqb-false (a .1 .kind) asksStore test in (
           tt,
           (
-            λ test′. let is2 : a .1 .kind ≡ 2 = eqb-true (a .1 .kind) 2 test′ in
+            λ test′. let is2 : a .1 .kind ≡ asksFetch = eqb-true (a .1 .kind) asksFetch test′ in
                 λ γ. (
                   refl,
                   (
@@ -135,7 +135,7 @@ module _ (w : World) (store : Knows (fun SC.store) w code.env) (fetch : Knows (f
                     ),
                   ),
                 ),
-            λ test′. let not2 : a .1 .kind ≡ 2 → ⊥ = eqb-false (a .1 .kind) 2 test′ in (
+            λ test′. let not2 : a .1 .kind ≡ asksFetch → ⊥ = eqb-false (a .1 .kind) asksFetch test′ in (
               λ _. d .makes,
               λ next. ((refl, (refl, (refl, (refl, (refl, (tt, (tt, tt))))))), resting (text .now) (kinds .now) (firsts .now) (seconds .now) entries (room .now) s pre (a .1) d (next .1) (next .5) not1 not2),
             ),

@@ -7,10 +7,11 @@ use Rattle.goals.specs.declared.Turn.{Turn}
 use Rattle.states.specs.declared.State.{State}
 use Rattle.states.specs.declared.Act.{Act}
 use Rattle.states.proofs.stopped.Statement.{statement}
+use Rattle.states.specs.Standing.{asksNothing}
 use Rattle.states.proofs.stopped.Tie as tie
 
 abbrev by : State → ℕ → ℕ → Turn → Act
-by s k line t = record { kind = 0; base = 0; count = 0; turn = t; «open» = s .open; steps = s .steps; lines = line; at = s .at; ended = true; number = k }
+by s k line t = record { kind = asksNothing; base = 0; count = 0; turn = t; «open» = s .open; steps = s .steps; lines = line; at = s .at; ended = true; number = k }
 
 returns : tie.Need-returns
 returns c = let a = c .before .args in ap (by (a .s) (a .number) (a .line)) (c .idle .ensures)
