@@ -52,11 +52,11 @@ entries x y =
     ∷ says "all" (entryOf Kind.all x y)
     ∷ []
 
--- 2. the words of the claims
+-- 2. what those of the claims say
 abbrev pub claims : ℕ → ℕ → ℕ → List (Saying Claim)
 claims x y z = says "is" (is x y) ∷ says "sub" (sub x y) ∷ says "link" (link x y z) ∷ []
 
--- 4. the words of the steps
+-- 4. what those of the steps say
 abbrev pub steps : ℕ → ℕ → ℕ → List (Saying Step)
 steps x y z =
     says "id" (Rules.id x y)
@@ -80,7 +80,7 @@ steps x y z =
     ∷ says "all-r" (Rules.all-r x y z)
     ∷ []
 
--- 4. the words of a model behind its size
+-- 4. what those of a model say, behind its size
 abbrev pub facts : ℕ → ℕ → ℕ → List (Saying Fact)
 facts x y z = says "name" (places x y) ∷ says "has" (has x y) ∷ says "edge" (edge x y z) ∷ []
 
