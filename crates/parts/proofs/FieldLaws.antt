@@ -35,9 +35,17 @@ fields-at l =
     ∙ ap (λ (r : List (List Field)). getD r (l .word) []) (all-words (l .side) (l .n0) (l .n1) (l .n2))
     ∙ List·getD-map (λ (u : Said). filled (map kindOf (saidFields u)) (l .n0) (l .n1) (l .n2)) (sayings 0 0 0 0) (l .word) unread
 
--- the word of number w has these kinds
+-- the word of number w has these kinds: a test that computes,
+abbrev pub has : ℕ → ℕ → ℕ → ℕ → Bool
+has a b c w = eqb (getD (kindsAt w) 0 0) a && (eqb (getD (kindsAt w) 1 0) b && eqb (getD (kindsAt w) 2 0) c)
+
+-- and the same shut, so that its numbers are found where it is asked for
 unfoldable pub isOf : ℕ → ℕ → ℕ → ℕ → Bool
-isOf a b c w = eqb (getD (kindsAt w) 0 0) a && (eqb (getD (kindsAt w) 1 0) b && eqb (getD (kindsAt w) 2 0) c)
+isOf a b c w = has a b c w
+
+pub is-of : (a b c w : ℕ) → has a b c w ≡ true → isOf a b c w ≡ true
+unfolding isOf
+is-of a b c w t = t
 
 pub fields-of : (l : Line) (a b c : ℕ) → isOf a b c (l .word) ≡ true → saidFields (saying l) ≡ fieldsBy a b c (l .n0) (l .n1) (l .n2)
 unfolding isOf

@@ -2,12 +2,10 @@
 -- Assumes nothing.
 use Prim.Native.Nat.{ℕ}
 use Prim.Native.String.{String}
-use mathlib.Core.Bool.{Bool, true, _&&_}
+use mathlib.Core.Bool.{Bool, true}
 use mathlib.Core.List.{List, [], _∷_, map}
 use mathlib.Core.Logic.{⊎-elim}
 use mathlib.Core.Path.{_≡_, refl, sym, ap, _∙_}
-use lib.Dec.{eqb}
-use lib.ListN.{getD}
 use borrow.Author.Needs.{needs}
 use Rattle.lines.specs.Text.{words, rowIndex, wordCount}
 use Rattle.lines.specs.Walk.{numberOf}
@@ -15,10 +13,10 @@ use Rattle.lines.specs.declared.Line.{Line}
 use Rattle.alc.specs.Lists.{every}
 use Rattle.alc.specs.Ranges.{inRange}
 use Rattle.alc.specs.Rules.{stepFields}
-use Rattle.alc.specs.Dossier.{unread, sayings, saying}
+use Rattle.alc.specs.Dossier.{saying}
 use Rattle.alc.proofs.Arms.{others}
-use Rattle.parts.specs.Fields.{saidFields, kindOf, fieldsBy, kindsAt}
-use Rattle.parts.proofs.FieldLaws.{isOf, fields-of}
+use Rattle.parts.specs.Fields.{saidFields, fieldsBy, kindsAt}
+use Rattle.parts.proofs.FieldLaws.{has, isOf, is-of, fields-of}
 use Rattle.parts.proofs.ranged.Statement.{statement}
 use Rattle.parts.proofs.ranged.Tie as tie
 
@@ -49,19 +47,12 @@ by : (l : Line) (e d a b c : ℕ) (r : Bool) → r ≡ every (inRange e d) (fiel
     → r ≡ every (inRange e d) (saidFields (saying l))
 by l e d a b c r p h = p ∙ ap (every (inRange e d)) (sym (fields-of l a b c h))
 
--- a word has these kinds: computed
-abbrev has : ℕ → ℕ → ℕ → ℕ → Bool
-has a b c w = let ks = map kindOf (saidFields (getD (sayings 0 0 0 0) w unread)) in eqb (getD ks 0 0) a && (eqb (getD ks 1 0) b && eqb (getD ks 2 0) c)
-
-is : (a b c w : ℕ) → has a b c w ≡ true → isOf a b c w ≡ true
-unfolding isOf kindsAt
-is a b c w t = t
-
+-- the kinds of a word by its number
 at : (a b c w k : ℕ) → has a b c k ≡ true → w ≡ k → isOf a b c w ≡ true
-at a b c w k t e = ap (isOf a b c) e ∙ is a b c k t
+at a b c w k t e = ap (isOf a b c) e ∙ is-of a b c k t
 
 pub ranged-spec : {M : Type 1} → statement M
-unfolding words rowIndex stepFields
+unfolding words rowIndex stepFields kindsAt
 ranged-spec =
     tie.close
     (tie.spec
@@ -102,4 +93,4 @@ ranged-spec =
     (λ c. by (c .before .before .args .l) _ _ _ _ _ _ (c .in-ranges17 .ensures) (at _ _ _ _ _ refl (c .before .match .keys17)))
     (λ c.
     let s = c .before .before in
-    by (s .args .l) _ _ _ _ _ _ (c .in-ranges18 .ensures) (is _ _ _ _ (others (map (map numberOf) arms) (has _ _ _) wordCount refl _ (s .pre) (c .before .match .rest)))))
+    by (s .args .l) _ _ _ _ _ _ (c .in-ranges18 .ensures) (is-of _ _ _ _ (others (map (map numberOf) arms) (has _ _ _) wordCount refl _ (s .pre) (c .before .match .rest)))))
