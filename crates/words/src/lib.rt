@@ -1,5 +1,5 @@
 // Which word a field is. The words are fixed byte strings, and a field is compared with one after the other, of those alone that may stand at the
-// place.
+// place, and four at most in a function, so that the last line of its proof finds all of them by itself.
 use lines::AT_SIZE;
 use lines::IN_CLAIMS;
 use lines::IN_FACTS;
@@ -27,7 +27,26 @@ fn section_word(f: &[u8]) -> u8
     WORDS
 }
 
-// The same among the words of the table, and `proof` and `model`.
+// The same among the words of entries with two numbers, and `proof` and `model`.
+fn pair_word(f: &[u8]) -> u8
+    ensures { λ r. ⌜ r ≡ sought 0 (now (f .entry)) (numberOf "and") (stepsFrom - numberOf "and") ⌝ }
+{
+    if same(f, b"and") {
+        return lines::AND;
+    }
+    if same(f, b"or") {
+        return lines::OR;
+    }
+    if same(f, b"some") {
+        return lines::SOME;
+    }
+    if same(f, b"all") {
+        return lines::ALL;
+    }
+    section_word(f)
+}
+
+// The same among those, and the words of entries with one number or none: all words of the table.
 fn table_word(f: &[u8]) -> u8
     ensures { λ r. ⌜ r ≡ sought 0 (now (f .entry)) 0 stepsFrom ⌝ }
 {
@@ -43,19 +62,7 @@ fn table_word(f: &[u8]) -> u8
     if same(f, b"not") {
         return lines::NOT;
     }
-    if same(f, b"and") {
-        return lines::AND;
-    }
-    if same(f, b"or") {
-        return lines::OR;
-    }
-    if same(f, b"some") {
-        return lines::SOME;
-    }
-    if same(f, b"all") {
-        return lines::ALL;
-    }
-    section_word(f)
+    pair_word(f)
 }
 
 // The same among the words of the claims.
@@ -74,16 +81,10 @@ fn claim_word(f: &[u8]) -> u8
     WORDS
 }
 
-// The same among the words of the steps on `sub`, `some` and `all`.
+// The same among the words of the steps on `some` and `all`.
 fn role_word(f: &[u8]) -> u8
-    ensures { λ r. ⌜ r ≡ sought 0 (now (f .entry)) (numberOf "sub-l") (sizeFrom - numberOf "sub-l") ⌝ }
+    ensures { λ r. ⌜ r ≡ sought 0 (now (f .entry)) (numberOf "some-l") (sizeFrom - numberOf "some-l") ⌝ }
 {
-    if same(f, b"sub-l") {
-        return lines::SUB_L;
-    }
-    if same(f, b"sub-r") {
-        return lines::SUB_R;
-    }
     if same(f, b"some-l") {
         return lines::SOME_L;
     }
@@ -99,22 +100,23 @@ fn role_word(f: &[u8]) -> u8
     WORDS
 }
 
-// The same among those, and the words of the steps on `top`, `bot`, `not`, `and` and `or`.
-fn boolean_word(f: &[u8]) -> u8
-    ensures { λ r. ⌜ r ≡ sought 0 (now (f .entry)) (numberOf "top-l") (sizeFrom - numberOf "top-l") ⌝ }
+// The same among those, and the words of the steps on `sub`.
+fn sub_word(f: &[u8]) -> u8
+    ensures { λ r. ⌜ r ≡ sought 0 (now (f .entry)) (numberOf "sub-l") (sizeFrom - numberOf "sub-l") ⌝ }
 {
-    if same(f, b"top-l") {
-        return lines::TOP_L;
+    if same(f, b"sub-l") {
+        return lines::SUB_L;
     }
-    if same(f, b"bot-r") {
-        return lines::BOT_R;
+    if same(f, b"sub-r") {
+        return lines::SUB_R;
     }
-    if same(f, b"not-l") {
-        return lines::NOT_L;
-    }
-    if same(f, b"not-r") {
-        return lines::NOT_R;
-    }
+    role_word(f)
+}
+
+// The same among those, and the words of the steps on `and` and `or`.
+fn and_or_word(f: &[u8]) -> u8
+    ensures { λ r. ⌜ r ≡ sought 0 (now (f .entry)) (numberOf "and-l") (sizeFrom - numberOf "and-l") ⌝ }
+{
     if same(f, b"and-l") {
         return lines::AND_L;
     }
@@ -127,10 +129,42 @@ fn boolean_word(f: &[u8]) -> u8
     if same(f, b"or-r") {
         return lines::OR_R;
     }
-    role_word(f)
+    sub_word(f)
 }
 
-// The same among those, and the words of the steps that close a goal: the words of all steps.
+// The same among those, and the words of the steps on `not`.
+fn not_word(f: &[u8]) -> u8
+    ensures { λ r. ⌜ r ≡ sought 0 (now (f .entry)) (numberOf "not-l") (sizeFrom - numberOf "not-l") ⌝ }
+{
+    if same(f, b"not-l") {
+        return lines::NOT_L;
+    }
+    if same(f, b"not-r") {
+        return lines::NOT_R;
+    }
+    and_or_word(f)
+}
+
+// The same among those, and the words of the steps on `top` and `bot`.
+fn unit_word(f: &[u8]) -> u8
+    ensures { λ r. ⌜ r ≡ sought 0 (now (f .entry)) (numberOf "bot-l") (sizeFrom - numberOf "bot-l") ⌝ }
+{
+    if same(f, b"bot-l") {
+        return lines::BOT_L;
+    }
+    if same(f, b"top-r") {
+        return lines::TOP_R;
+    }
+    if same(f, b"top-l") {
+        return lines::TOP_L;
+    }
+    if same(f, b"bot-r") {
+        return lines::BOT_R;
+    }
+    not_word(f)
+}
+
+// The same among those, and the words of the identities: all words of the steps.
 fn step_word(f: &[u8]) -> u8
     ensures { λ r. ⌜ r ≡ sought 0 (now (f .entry)) stepsFrom (length stepWords) ⌝ }
 {
@@ -143,13 +177,7 @@ fn step_word(f: &[u8]) -> u8
     if same(f, b"id-link") {
         return lines::ID_LINK;
     }
-    if same(f, b"bot-l") {
-        return lines::BOT_L;
-    }
-    if same(f, b"top-r") {
-        return lines::TOP_R;
-    }
-    boolean_word(f)
+    unit_word(f)
 }
 
 // The same, if it is `size`.

@@ -1,18 +1,14 @@
 -- `words::size_word` meets its contract: it compares with each of these words, and a field is one word at most. Assumes nothing.
 use mathlib.Core.Path.{refl}
 use Rattle.lines.specs.Text.{words, rowOf, rowIndex}
-use Rattle.lines.proofs.Words.{hit, done, no, among, covered, covers, rest-none}
+use Rattle.lines.proofs.Words.{hit, missed, spelled, rest-none}
 use Rattle.words.proofs.size_word.Statement.{statement}
 use Rattle.words.proofs.size_word.Tie as tie
 
 pub size-word-spec : {M : Type 1} → statement M
-unfolding words rowOf rowIndex among covered covers
+unfolding words rowOf rowIndex spelled
 size-word-spec =
     tie.close
     (tie.spec
-    (λ c. refl) (λ c κs. tt) (λ c. hit _ _ _ _ _ refl refl refl (c .before .same .ensures) (c .if1 .taken))
-    (λ c.
-    let m = done in
-    let e = c in
-    let m = no "size" (e .before .same .ensures) (e .if1 .left) m in
-    rest-none _ _ _ _ refl m))
+    (λ c. refl) (λ c κs. tt) (λ c. search hit)
+    (λ c. rest-none _ _ _ _ (search missed)))

@@ -1,27 +1,17 @@
--- `words::step_word` meets its contract: it compares with each of these words, and a field is one word at most; `boolean_word` compares with those behind them. Assumes nothing.
-use mathlib.Core.Path.{refl, _∙_}
+-- `words::step_word` meets its contract: it compares with each of these words, and a field is one word at most; `unit_word` compares with those behind them. Assumes nothing.
+use mathlib.Core.Path.{refl}
 use Rattle.lines.specs.Text.{words, rowOf, rowIndex}
-use Rattle.lines.proofs.Words.{hit, done, no, among, covered, covers, rest}
+use Rattle.lines.proofs.Words.{hit, missed, spelled, rest}
 use Rattle.words.proofs.step_word.Statement.{statement}
 use Rattle.words.proofs.step_word.Tie as tie
 
 pub step-word-spec : {M : Type 1} → statement M
-unfolding words rowOf rowIndex among covered covers
+unfolding words rowOf rowIndex spelled
 step-word-spec =
     tie.close
     (tie.spec
-    (λ c. refl) (λ c κs. tt) (λ c. hit _ _ _ _ _ refl refl refl (c .before .same .ensures) (c .if1 .taken))
-    (λ c. refl) (λ c κs. tt) (λ c. hit _ _ _ _ _ refl refl refl (c .before .same2 .ensures) (c .if2 .taken))
-    (λ c. refl) (λ c κs. tt) (λ c. hit _ _ _ _ _ refl refl refl (c .before .same3 .ensures) (c .if3 .taken))
-    (λ c. refl) (λ c κs. tt) (λ c. hit _ _ _ _ _ refl refl refl (c .before .same4 .ensures) (c .if4 .taken))
-    (λ c. refl) (λ c κs. tt) (λ c. hit _ _ _ _ _ refl refl refl (c .before .same5 .ensures) (c .if5 .taken))
+    (λ c. refl) (λ c κs. tt) (λ c. search hit)
+    (λ c. refl) (λ c κs. tt) (λ c. search hit)
+    (λ c. refl) (λ c κs. tt) (λ c. search hit)
     (λ c κs. tt)
-    (λ c.
-    let m = done in
-    let e = c .before in
-    let m = no "top-r" (e .before .same5 .ensures) (e .if5 .left) m in let e = e .before .before .before in
-    let m = no "bot-l" (e .before .same4 .ensures) (e .if4 .left) m in let e = e .before .before .before in
-    let m = no "id-link" (e .before .same3 .ensures) (e .if3 .left) m in let e = e .before .before .before in
-    let m = no "id-sub" (e .before .same2 .ensures) (e .if2 .left) m in let e = e .before .before .before in
-    let m = no "id" (e .before .same .ensures) (e .if1 .left) m in
-    c .boolean-word .ensures ∙ rest _ _ _ _ _ _ refl m))
+    (λ c. rest _ _ _ _ _ _ refl (search missed) (c .unit-word .ensures)))

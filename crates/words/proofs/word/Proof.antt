@@ -11,7 +11,7 @@ use borrow.Author.Tests.{eq-eqb, ne-eqb}
 use Rattle.lines.specs.Text.{sectionWords, stepWords, sizeWords, factWords, words, wordCount, rowOf, wordOf, behindOf, allowed}
 use Rattle.lines.specs.Walk.{claimsFrom, sectionsFrom, stepsFrom, sizeFrom, factsFrom, within, placed, sought}
 use Rattle.lines.proofs.Laws.{none-from}
-use Rattle.lines.proofs.Words.{allBelow, spans, spans-none, placed-sought, done, among, covered, covers, rest, claimed, unclaimed}
+use Rattle.lines.proofs.Words.{allBelow, spans, spans-none, placed-sought, done, spelled, rest, claimed, unclaimed}
 use Rattle.words.proofs.word.Statement.{statement}
 use Rattle.words.proofs.word.Tie as tie
 
@@ -40,7 +40,7 @@ module _ (c : tie.Start) where
   by-place r p a n z q h t e = no-side r p a n z q (spans p a (a + n) h t) e
 
 pub word-spec : {M : Type 1} → statement M
-unfolding words rowOf sought among covered covers
+unfolding words rowOf sought spelled
 word-spec =
     tie.close
     (tie.spec
@@ -56,7 +56,7 @@ word-spec =
     (λ c.
     let m = c .before in
     by-place (m .before .before .before) _ _ claimsFrom (stepsFrom - claimsFrom) (m .before .if1 .left) (m .match .keys2) (omega arith) refl
-    (c .section-word .ensures ∙ rest 0 (f (m .before .before .before)) claimsFrom (stepsFrom - claimsFrom) sectionsFrom (length sectionWords) refl done))
+    (rest 0 (f (m .before .before .before)) claimsFrom (stepsFrom - claimsFrom) sectionsFrom (length sectionWords) refl done (c .section-word .ensures)))
     (λ c. let m = c .before in by-place (m .before .before .before) _ _ stepsFrom (length stepWords) (m .before .if1 .left) (m .match .keys3) (omega arith) refl (c .step-word .ensures))
     (λ c. let m = c .before in by-place (m .before .before .before) _ _ sizeFrom (length sizeWords) (m .before .if1 .left) (m .match .keys4) (omega arith) refl (c .size-word .ensures))
     (λ c. let m = c .before in by-place (m .before .before .before) _ _ factsFrom (length factWords) (m .before .if1 .left) (m .match .keys5) (omega arith) refl (c .fact-word .ensures))
