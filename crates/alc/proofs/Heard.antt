@@ -73,7 +73,7 @@ no_claims T = record { few = omega arith; ranges = tt }
 
 more_claims : (T : Table) (cs : List Sided) (s : Sided) → GoodClaims T cs → ltb (length cs) 64 ≡ true → InRange (length T) 0 (claim_fields (Claims.claim s))
     → GoodClaims T (cs ++ (s ∷ []))
-more_claims T cs s c l r = record { few = one_more cs s 64 l; ranges = All-append _ cs (s ∷ []) c.ranges-2 (r, tt) }
+more_claims T cs s c l r = record { few = one_more cs s 64 l; ranges = All-append _ cs (s ∷ []) c.ranges (r, tt) }
 
 no_steps : (T : Table) → GoodSteps T []
 no_steps T = record { few = omega arith; ranges = tt }

@@ -54,7 +54,7 @@ pub run_passes : {S E : State} (is : List Item) → Run S (map said_by is) E →
 run_passes [] stop = none
 run_passes {S} {E} (i ∷ is) (read h p w) =
     let e : said_by i ≡ said S i = sym (at_place S.part i ∙ rw h) in
-    line (subst (λ t. AllPassed (rows S t)) e p) (subst (λ t. Passes (after S t) is E) e (run_passes is w))
+    line (subst (λ t. AllPassed (rows S t)) e p) (subst (λ t. Passes (after S t) is E) e (run_passes {S = after S (said_by i)} is w))
 
 pub run-append : {S E F : State} {ss rs : List Said} → Run S ss E → Run E rs F → Run S (ss ++ rs) F
 run-append stop v = v
@@ -124,7 +124,7 @@ module _ (T : Table) where
         → Run begin (map concept T ++ (map claim cs ++ (proof ∷ map step ss))) (state steps T cs (length ss) gs 0 [])
     unfolding rows after
     proof_run {ss} {gs} t c s w =
-        let h = claims_run table refl [] cs (omega (arith, c.few)) c.ranges-2 in
+        let h = claims_run table refl [] cs (omega (arith, c.few)) c.ranges in
         run-append (table_run [] T (omega (arith, t.few)) t.ranges t.differ)
         (run-append h.run (read h.turns tt (rw zero-add at (steps_run w 0 (omega (arith, s.few)) s.ranges))))
 
@@ -132,6 +132,6 @@ module _ (T : Table) where
         → Run begin (map concept T ++ (map claim cs ++ (model ∷ size n ∷ map fact fs))) (state facts T cs 0 [] n fs)
     unfolding rows after
     model_run n fs t c m =
-        let h = claims_run table refl [] cs (omega (arith, c.few)) c.ranges-2 in
+        let h = claims_run table refl [] cs (omega (arith, c.few)) c.ranges in
         run-append (table_run [] T (omega (arith, t.few)) t.ranges t.differ)
         (run-append h.run (read h.turns tt (read refl (rw (le-leb 1 n m.least, le-leb n 32 m.most), tt) (facts_run n [] fs m.ranges m.differ))))

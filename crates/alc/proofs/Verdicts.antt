@@ -127,12 +127,15 @@ module _ (room : ℕ) (text : List ℕ) where
   refuted_iff n = (λ e. refuted_so (decides room text e), λ h. decided room text (so_refuted h.0 h.1) ∙ ap refuted (sym h.2))
 
   -- REFUSED
+  by_ending : {E : State} {k n : ℕ} → 1088 ≤ room → length text ≤ 65535 → Passes begin (lines_of text) E → Ends (length (lines_of text)) E (refused k n) → Refuses room text k n
+  by_ending h s w (missing u) = Refusal.at_end h s w u
+  by_ending h s w (wrong p u f) = Refusal.by_model h s w p u f
+
   refused_so : {k n : ℕ} → Decides room text (refused k n) → Refuses room text k n
   refused_so (narrow h) = Refusal.narrow h
   refused_so (long h s) = Refusal.long h s
   refused_so (bad h s b) = Refusal.at_line h s b
-  refused_so (end h s w (missing u)) = Refusal.at_end h s w u
-  refused_so (end h s w (wrong p u f)) = Refusal.by_model h s w p u f
+  refused_so (end h s w e) = by_ending h s w e
 
   so_refused : {k n : ℕ} → Refuses room text k n → Decides room text (refused k n)
   so_refused (Refusal.narrow h) = narrow h

@@ -1,4 +1,6 @@
 // The claims of a dossier, read line by line into a goal. Words and numbers come from `reading`, and no byte is seen here.
+#![tactic(auto)]
+
 ghost use Rattle.std.specs.Prelude.{◌≡◌, ◌<◌, ◌≤◌, length, cond, eqb};
 ghost use Rattle.lines.specs.Text.{on_left, on_right, word_count};
 ghost use Rattle.lines.specs.Walk.{claims_from, sections_from};

@@ -1,5 +1,7 @@
 // The loop over a derivation's lines. The goals that wait live in the room that the caller lends; what a line does is decided in `steps`, by
 // value, and the functions here only do it to the room. They are proved by hand, statement by statement.
+#![tactic(auto)]
+
 ghost use Rattle.std.specs.Prelude.{◌≡◌, List, ◌≤◌, eqb, length, replicate};
 ghost use Rattle.alc.specs.Claims.{Sided};
 ghost use Rattle.alc.specs.Shown.{answered, table_of, blank};

@@ -1,11 +1,13 @@
 // The bytes of a line: where a field ends, which byte stands at a position, and a field as a number, digit by digit. No text is copied.
+#![tactic(auto)]
+
 ghost use Rattle.std.specs.Prelude.{◌≡◌, drop};
 ghost use Rattle.lines.specs.Text.{digit};
 ghost use Rattle.lines.specs.Walk.{parting, opens};
 ghost use Rattle.digits.specs.Number.{number_in};
 
 // A field read as a number, with the position where it ends.
-#[derive(Drop)]
+#[derive(Clone, Copy)]
 pub enum Num {
     Is(u16, usize),
     Not,

@@ -1,4 +1,6 @@
 // The elements of each line of the concept table in a model, as sets of 32 bits, worked out from those of the lines above it.
+#![tactic(auto)]
+
 ghost use Rattle.std.specs.Prelude.{◌≡◌, ◌&&◌, ◌||◌, not, ℕ, ◌+◌, ◌*◌, ◌<◌, ltb, get_or};
 ghost use Rattle.alc.specs.Lists.{All};
 ghost use Rattle.alc.specs.Meaning.{some_below, every_below};

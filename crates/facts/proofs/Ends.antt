@@ -60,7 +60,7 @@ module _ (ks xs ys : List ℕ) (n : ℕ) (c : Columns ks xs ys n) where
       go : Dec (i < n) → All (Below i 0) (entry_fields (entry T i))
       go (yes h) =
           let e = entry_of (kind_at (get_or ks i 0)) (get_or xs i 0) (get_or ys i 0) in
-          at e (table_at ks xs ys n i (entry_of Kind.top 0 0) h) (in_range_lem i 0 (entry_fields e) (c.ranges-2 i h))
+          at e (table_at ks xs ys n i (entry_of Kind.top 0 0) h) (in_range_lem i 0 (entry_fields e) (c.ranges i h))
       go (no h) = at (entry_of Kind.top 0 0) (get_or-eq_default T (entry_of Kind.top 0 0) (omega (arith, table-length ks xs ys n))) tt
 
   pub tabled : Tabled ks xs ys n

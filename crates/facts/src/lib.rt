@@ -1,5 +1,7 @@
 // The model of a dossier: its size, and its facts line by line, told to the arrays of `models`; at the end the claims are judged by them.
 // Words and numbers come from `reading`, ranges from `parts`, and no byte is seen here.
+#![tactic(auto)]
+
 ghost use Rattle.std.specs.Prelude.{◌≡◌, List, [], ℕ, ◌<◌, ◌≤◌, length, drop};
 ghost use Rattle.lines.specs.Text.{word_count, lines_of};
 ghost use Rattle.lines.specs.Walk.{facts_from};
@@ -35,7 +37,7 @@ fn store(l: Line, places: &mut [u8; 64], atoms: &mut [u32; 64], edges: &mut [u32
 }
 
 // What reading the facts came to: the refusal's number or 0, and how many lines were read.
-#[derive(Drop)]
+#[derive(Clone, Copy)]
 struct Heard {
     number: u8,
     lines: usize,

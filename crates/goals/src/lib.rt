@@ -1,5 +1,7 @@
 // Goals as lists of claim records: what stands in a goal, and one claim more. A goal goes in by value and comes back by value.
 // The records that the rules speak of stand here too: a line of the table, a step, a plan and a turn.
+#![tactic(auto)]
+
 ghost use Rattle.std.specs.Prelude.{◌≡◌, [], ◌∷◌, ◌++◌, ◌+◌, ◌≤◌, cond, ltb};
 ghost use Rattle.alc.specs.Lists.{any, first_at};
 ghost use Rattle.alc.specs.Shown.{records};
@@ -8,7 +10,7 @@ ghost use Rattle.goals.specs.Records.{same_record, has_name};
 use alc::{Claim, Concept, Goal, Name, kinds};
 
 // A line of the table: its kind's number, and its two numbers.
-#[derive(Drop)]
+#[derive(Clone, Copy)]
 pub struct Entry {
     pub kind: u8,
     pub x: u8,
@@ -16,7 +18,7 @@ pub struct Entry {
 }
 
 // A step: its word's number and its fields.
-#[derive(Drop)]
+#[derive(Clone, Copy)]
 pub struct Step {
     pub word: u8,
     pub x: u8,
@@ -25,7 +27,7 @@ pub struct Step {
 }
 
 // What a rule asks of the entry and of the goal, and what it does.
-#[derive(Drop)]
+#[derive(Clone, Copy)]
 pub struct Plan {
     // the kind of entry asked, or ANY
     pub kind: u8,
@@ -61,7 +63,7 @@ pub const ANY: u8 = kinds::ALL + 1;
 
 // What a step does to the current goal: the refusal's number, or 0 and how its premises are made. It holds no goal, since one held by value is
 // copied from hop to hop.
-#[derive(Drop)]
+#[derive(Clone, Copy)]
 pub struct Turn {
     pub number: u8,
     // how many premises there are

@@ -1,4 +1,6 @@
 // The judging program: a dossier from standard input, one line out: word, number and line, parted by tabs.
+#![tactic(auto)]
+
 ghost use Rattle.std.specs.Prelude.{length, ◌≤◌};
 
 use alc::Answer;
@@ -16,7 +18,7 @@ fn main() {
 }
 
 // How many bytes were read, and whether a read failed.
-#[derive(Drop)]
+#[derive(Clone, Copy)]
 struct Input {
     count: usize,
     failed: bool,

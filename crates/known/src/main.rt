@@ -1,4 +1,6 @@
 // The known dossiers, run through the library: a line for each, its name and its verdict.
+#![tactic(auto)]
+
 ghost use Rattle.std.specs.Prelude.{◌≡◌, length};
 
 use alc::Answer;

@@ -1,6 +1,8 @@
 // A model in arrays of sets of 32 bits: its lines, told one by one. The caller holds the model in arrays of numbers and lends them.
 // `places[a]` is 0 where name a is not placed, and else its element and 1 more; `atoms[A]` has the elements of atom A; `edges[32 r + d]` has the
 // elements to which role r leads from element d.
+#![tactic(auto)]
+
 ghost use Rattle.std.specs.Prelude.{◌<◌, length};
 ghost use Rattle.models.specs.Shown.{SetAdded, PlaceSet, AtomSet, EdgeSet};
 

@@ -1,11 +1,13 @@
 // The numbers of a line: the rest of a line as so many numbers. No text is copied.
+#![tactic(auto)]
+
 ghost use Rattle.std.specs.Prelude.{◌≡◌, drop};
 ghost use Rattle.numbers.specs.Numbers.{numbers_in, number_at, led};
 
 use digits::{Num, holds, number};
 
 // The fields behind a word read as so many numbers, with 0 for those that are not there, and the position behind the line.
-#[derive(Drop)]
+#[derive(Clone, Copy)]
 pub enum Nums {
     Are(u16, u16, u16, u16, usize),
     Not,

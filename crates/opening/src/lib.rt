@@ -1,4 +1,6 @@
 // What stands before a derivation: a dossier's table and claims, read up to the first step; or its verdict, where none follows.
+#![tactic(auto)]
+
 ghost use Rattle.std.specs.Prelude.{◌≡◌, ◌≤◌};
 ghost use Rattle.states.specs.Standing.{begun_of};
 ghost use Rattle.steps.specs.Acting.{Fits};
@@ -8,7 +10,7 @@ use alc::Answer;
 use states::State;
 
 // What stands before a derivation: the table in three columns and the state at its first step; or the answer, where none follows.
-#[derive(Drop)]
+#[derive(Clone, Copy)]
 pub struct Opening {
     pub follows: bool,
     pub answer: Answer,

@@ -1,4 +1,6 @@
 // The judge for programs in other languages: a static library's one function.
+#![tactic(auto)]
+
 ghost use Rattle.std.specs.Prelude.{◌≡◌, length, replicate};
 ghost use Rattle.alc.specs.Shown.{answered, blank};
 ghost use Rattle.alc.specs.Verdict.{verdict};

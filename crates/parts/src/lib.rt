@@ -1,5 +1,7 @@
 // The parts of a dossier: whether the numbers of a line are in their ranges, whichever part it stands in, and what reading the table and the claims
 // comes to. `tables`, `claims`, `steps` and `facts` read the parts.
+#![tactic(auto)]
+
 ghost use Rattle.std.specs.Prelude.{◌≡◌, ◌<◌, ◌&&◌, leb};
 ghost use Rattle.lines.specs.Text.{word_count};
 ghost use Rattle.alc.specs.Lists.{every};
@@ -93,7 +95,7 @@ pub fn ranged(l: Line, n: usize, m: u8) -> bool
 }
 
 // What reading the table came to: the refusal's number or 0, the position of the next line, and how many lines the table has.
-#[derive(Drop)]
+#[derive(Clone, Copy)]
 pub struct Listed {
     pub number: u8,
     pub at: usize,
@@ -108,7 +110,7 @@ pub const MODELS: u8 = 2;
 
 // What reading the claims came to: the refusal's number or 0, what ended them (PROVES, MODELS, or 0 where they are refused), the position of the next
 // line, how many lines were read, and the claims.
-#[derive(Drop)]
+#[derive(Clone, Copy)]
 pub struct Heading {
     pub number: u8,
     pub section: u8,

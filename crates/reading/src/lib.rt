@@ -1,6 +1,8 @@
 // The line that begins at a position of a text. `read` says what stands there: a line that is well formed and allowed at its place, as the
 // number of its word, its side, its numbers and the position behind it; a line that is not; or the end of the text.
 // A line is read in one pass over its bytes, plus the comparison of its word. No text is copied.
+#![tactic(auto)]
+
 ghost use Rattle.std.specs.Prelude.{◌≡◌, ◌+◌, ◌≤◌, ◌<◌, length, drop};
 ghost use Rattle.lines.specs.Text.{side_of};
 ghost use Rattle.lines.specs.Walk.{field_of, read_at};
@@ -12,7 +14,7 @@ use numbers::{Nums, numbers};
 use words::word;
 
 // A field: the bytes of a text from a position on, up to another.
-#[derive(Drop)]
+#[derive(Clone, Copy)]
 struct Part {
     from: usize,
     to: usize,

@@ -1,4 +1,6 @@
 // The judge's answer as the line that is printed: word, number and line, parted by tabs.
+#![tactic(auto)]
+
 ghost use Rattle.std.specs.Prelude.{◌≡◌, ◌∷◌, [], ◌++◌, ◌+◌, ◌<◌, ◌≤◌, length};
 ghost use Rattle.io.specs.Counts.{IsPrefixLen};
 ghost use Rattle.alc.specs.Shown.{answered};
@@ -7,7 +9,7 @@ ghost use Rattle.report.specs.Printed.{digits, columns, printed, held};
 use alc::Answer;
 
 // The first `count` bytes are what is printed; the others say nothing.
-#[derive(Drop)]
+#[derive(Clone, Copy)]
 pub struct Printed {
     pub bytes: [u8; 64],
     pub count: usize,

@@ -1,5 +1,7 @@
 // The room that the caller lends, a slice of claim records: a record goes in, is read, and in the end every one is blank. Functions over the room are
 // proved by hand, statement by statement.
+#![tactic(auto)]
+
 ghost use Rattle.std.specs.Prelude.{◌≡◌, ◌<◌, length, set, replicate, get_or};
 ghost use Rattle.alc.specs.Shown.{blank};
 

@@ -1,5 +1,7 @@
 // The rules: what a step asks of the current goal and what it leaves, as a plan. A rule is a row: an arm of one of three decisions over its word.
 // No goal is seen here.
+#![tactic(auto)]
+
 ghost use Rattle.std.specs.Prelude.{◌≡◌, ◌<◌, ◌≤◌};
 ghost use Rattle.lines.specs.Walk.{steps_from, size_from, number_of};
 ghost use Rattle.alc.specs.Shown.{kind_at};

@@ -1,4 +1,6 @@
 // Sets of elements as numbers of 32 bits: what is asked of a set, and what is made of one.
+#![tactic(auto)]
+
 ghost use Rattle.std.specs.Prelude.{◌≡◌, ◌&&◌, ◌||◌, not, ℕ, ◌<◌, eqb, ltb, get_or};
 ghost use Rattle.sets.specs.Bit.{bit, common, Sized};
 

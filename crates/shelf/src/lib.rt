@@ -1,4 +1,6 @@
 // Goals that wait, in the room that the caller lends: stored, and fetched again. Functions over the room are proved by hand, statement by statement.
+#![tactic(auto)]
+
 ghost use Rattle.std.specs.Prelude.{◌≡◌, ◌+◌, ◌≤◌, length};
 ghost use Rattle.shelf.specs.Stored.{copied, stored, fetched, goal_of};
 

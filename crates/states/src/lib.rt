@@ -1,5 +1,7 @@
 // Where a derivation stands, by value: the records of its state and of an act, and how each is made. Which act a line is, `steps` decides; no line is
 // read here.
+#![tactic(auto)]
+
 ghost use Rattle.std.specs.Prelude.{◌≡◌, ◌<◌, ◌≤◌};
 ghost use Rattle.goals.specs.Records.{Makes};
 ghost use Rattle.states.specs.Standing.{asks_store, begun_of, idle_of, stopped_of, passed_of, parted_of, closed_of, after_of, After, Aside};
@@ -8,7 +10,7 @@ use alc::{Concept, Goal, Name};
 use goals::{CLOSES, Turn};
 
 // Where a derivation stands: the current goal, how many claims each goal that waits has, and how far the text is read.
-#[derive(Drop)]
+#[derive(Clone, Copy)]
 pub struct State {
     // the current goal, where one is open
     pub goal: Goal,
@@ -34,7 +36,7 @@ pub const STORES: u8 = 1;
 pub const FETCHES: u8 = 2;
 
 // What a line does: what it asks of the room, its turn at the current goal, and the numbers of the state behind it. Like a turn it holds no goal.
-#[derive(Drop)]
+#[derive(Clone, Copy)]
 pub struct Act {
     // NOTHING, STORES or FETCHES
     pub kind: u8,

@@ -1,5 +1,7 @@
 // The steps of a derivation, read line by line: each works on the current goal and leaves its premises. The rules come from `turns`, the
 // lines from `reading`, the records from `states`, and no byte is seen here.
+#![tactic(auto)]
+
 ghost use Rattle.std.specs.Prelude.{◌≡◌, ◌<◌, ◌≤◌, ◌%◌};
 ghost use Rattle.lines.specs.Text.{at_steps};
 ghost use Rattle.lines.specs.Walk.{steps_from, size_from, read_at};

@@ -1,4 +1,6 @@
 // The table of a dossier, read line by line into three columns. Words and numbers come from `reading`, and no byte is seen here.
+#![tactic(auto)]
+
 ghost use Rattle.std.specs.Prelude.{◌≡◌, ℕ, ◌<◌, ◌≤◌, ◌%◌, length, get_or, set, ◌&&◌, eqb};
 ghost use Rattle.alc.specs.Rows.{refusal};
 ghost use Rattle.alc.specs.Table.{entry_of, stands as standsIn};

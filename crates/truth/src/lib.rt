@@ -1,4 +1,6 @@
 // The claims in a model: whether all their names are placed, and the first claim that the model gets wrong.
+#![tactic(auto)]
+
 ghost use Rattle.std.specs.Prelude.{◌≡◌, true, ◌||◌, not, ◌<◌};
 ghost use Rattle.alc.specs.Lists.{All, every, first_at};
 ghost use Rattle.alc.specs.Meaning.{every_below};

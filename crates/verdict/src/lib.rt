@@ -1,5 +1,7 @@
 // The judging function: a text and a lent room in, the verdict out, and the room is blank afterwards. Functions over the room are proved by hand,
 // statement by statement.
+#![tactic(auto)]
+
 ghost use Rattle.std.specs.Prelude.{◌≡◌, length, replicate};
 ghost use Rattle.alc.specs.Shown.{answered, blank};
 ghost use Rattle.alc.specs.Verdict.{verdict};

@@ -1,5 +1,7 @@
 // Which word a field is. The words are fixed byte strings, and a field is compared with one after the other, of those alone that may stand at the
 // place, and four at most in a function, so that the last line of its proof finds all of them by itself.
+#![tactic(auto)]
+
 ghost use Rattle.std.specs.Prelude.{◌≡◌, ◌-◌, length};
 ghost use Rattle.lines.specs.Text.{claim_words, section_words, step_words, size_words, fact_words, word_of, behind_of};
 ghost use Rattle.lines.specs.Walk.{claims_from, sections_from, steps_from, size_from, facts_from, number_of, placed, sought};
