@@ -1,5 +1,5 @@
 // The loop over a derivation's lines. The goals that wait live in the room that the caller lends; what a line does is decided in `steps`, by
-// value, and the functions here only do it to the room. They are proved by hand, statement by statement.
+// value, and the functions here only do it to the room.
 #![tactic(auto)]
 
 ghost use Rattle.std.specs.Prelude.{◌≡◌, List, ◌≤◌, eqb, length, replicate};

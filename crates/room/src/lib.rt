@@ -1,5 +1,4 @@
-// The room that the caller lends, a slice of claim records: a record goes in, is read, and in the end every one is blank. Functions over the room are
-// proved by hand, statement by statement.
+// The room that the caller lends, a slice of claim records: a record goes in, is read, and in the end every one is blank.
 #![tactic(auto)]
 
 ghost use Rattle.std.specs.Prelude.{◌≡◌, ◌<◌, length, set, replicate, get_or};

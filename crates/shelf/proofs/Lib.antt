@@ -1,5 +1,3 @@
--- `Goals`: the contracts of the functions. `Stored`: what the loop does to a list of records.
--- `Back`: what is fetched is what was stored.
-pub mod Goals
+-- `Stored`: what the loop does to a list of records. `Back`: what is fetched is what was stored.
 pub mod Stored
 pub mod Back

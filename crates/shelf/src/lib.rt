@@ -1,4 +1,4 @@
-// Goals that wait, in the room that the caller lends: stored, and fetched again. Functions over the room are proved by hand, statement by statement.
+// Goals that wait, in the room that the caller lends: stored, and fetched again.
 #![tactic(auto)]
 
 ghost use Rattle.std.specs.Prelude.{◌≡◌, ◌+◌, ◌≤◌, length};

@@ -1,5 +1,4 @@
-// The judging function: a text and a lent room in, the verdict out, and the room is blank afterwards. Functions over the room are proved by hand,
-// statement by statement.
+// The judging function: a text and a lent room in, the verdict out, and the room is blank afterwards.
 #![tactic(auto)]
 
 ghost use Rattle.std.specs.Prelude.{◌≡◌, length, replicate};
