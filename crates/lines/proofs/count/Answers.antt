@@ -1,7 +1,7 @@
 -- `lines::count` meets its contract: tried word by word in the table, each arm has the words of its count. Assumes nothing.
 use Prim.Native.Nat.{ℕ, ◌≤◌, ◌<◌, zero-le}
 use mathlib.Core.Path.{◌≡◌, refl, sym}
-use mathlib.Core.Logic.{◌⊎◌, inl, inr}
+use mathlib.Core.Logic.{inl, inr}
 use mathlib.Core.Bool.{Bool, true, not, ◌||◌}
 use native.Mathlib.Omega.{arith}
 use lib.Dec.{eqb}
