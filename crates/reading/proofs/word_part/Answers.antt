@@ -26,4 +26,4 @@ returns c =
     let q = c.requires in
     let parted : opens 9 (drop c.args.e c.args.text.now) ≡ true = sym c.holds.ensures ∙ c.if-not-holds.false in
     let inside : c.args.e < length c.args.text.now = opens_within _ _ 9 parted in
-    second_word _ _ _ _ q.0 (first _ _ _ q.0 q.1) (sym q.2) c.if-s-eq-NO_SIDE.false parted _ (ends _ _ _ inside c.field_end-to.ensures)
+    second_word _ _ _ _ q.0 (first _ _ _ q.0 q.1) (sym q.2) c.if-s-eq-NO_SIDE.false parted _ (ends _ (c.args.e + 1) _ (omega arith) c.field_end-to.ensures)
