@@ -79,7 +79,7 @@ module _ (a : ℕ) (c : Record) where
 -- the records of a goal that is passed: how many, and each
 module _ (g : Records) (vs : List Val) (told : Is (declared.row the_type) g vs) (few : g.count ≤ 64) where
   pub all-length : length g.claims ≡ 64
-  all-length = sym (length-map g.claims _) ∙ told.1.1.0.1.0.1
+  all-length = told.1.1.0.1.0.1
 
   pub records-length : length (records g) ≡ g.count
   records-length = length-take-le g.count g.claims (omega (arith, all-length))
