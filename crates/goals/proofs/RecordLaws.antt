@@ -9,7 +9,7 @@ use mathlib.Core.Bool.{Bool, true, false, not, cond, ◌&&◌, ◌||◌, decide,
 use mathlib.Core.List.{List, [], ◌∷◌, ◌++◌, append-nil, append_assoc}
 use mathlib.Core.Path.{◌≡◌, refl, sym, ap, ap₂, ◌∙◌}
 use lib.Dec.{eqb, ltb, leb}
-use lib.ListN.{length, get_or, take, drop, set, drop_of_length-le, length-map, length-append, length-drop, length-set, get_or-append}
+use lib.ListN.{length, get_or, take, drop, set, drop_of_length-le, length-append, length-drop, length-set, get_or-append}
 use mir.Val.{Val}
 use denote.Laws.{Is}
 use denote.Struct.Declared as declared

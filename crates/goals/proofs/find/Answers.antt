@@ -1,12 +1,8 @@
 -- `goals::find` meets its contract. The invariant: the place sought is i and the place in what is left from i on. The measure is what is
 -- left of the goal. Assumes nothing.
-use Prim.Native.Nat.{◌+◌, ◌≤◌, ◌-◌}
-use mathlib.Core.Path.{◌≡◌, sym, ◌∙◌}
+use mathlib.Core.Path.{sym, ◌∙◌}
 use native.Mathlib.Omega.{arith}
 use native.Mathlib.Nat.{zero-add}
-use lib.ListN.{drop}
-use Rattle.alc.specs.Lists.{first_at}
-use Rattle.alc.specs.Shown.{records}
 use Rattle.goals.specs.Records.{same_record}
 use Rattle.goals.proofs.RecordLaws.{first_here, first_next, first_end}
 use Rattle.goals.proofs.find.Goals as goal

@@ -1,13 +1,10 @@
 -- The invariant and measure of the loop.
 use Prim.Native.Nat.{◌+◌, ◌≤◌, ◌-◌}
-use mathlib.Core.Path.{◌≡◌, sym, ◌∙◌}
-use native.Mathlib.Omega.{arith}
-use native.Mathlib.Nat.{zero-add}
+use mathlib.Core.Path.{◌≡◌}
 use lib.ListN.{drop}
 use Rattle.alc.specs.Lists.{first_at}
 use Rattle.alc.specs.Shown.{records}
 use Rattle.goals.specs.Records.{same_record}
-use Rattle.goals.proofs.RecordLaws.{first_here, first_next, first_end}
 use Rattle.goals.proofs.find.Given as goal
 
 abbrev pub invariant-loop-i : goal.invariant-loop-i

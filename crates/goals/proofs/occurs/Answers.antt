@@ -1,11 +1,7 @@
 -- `goals::occurs` meets its contract. The invariant: the name stands in the goal exactly if it stands in what is left from i on. The
 -- measure is what is left of the goal. Assumes nothing.
-use Prim.Native.Nat.{◌≤◌, ◌-◌}
-use mathlib.Core.Path.{◌≡◌, refl, sym, ◌∙◌}
+use mathlib.Core.Path.{refl, sym, ◌∙◌}
 use native.Mathlib.Omega.{arith}
-use lib.ListN.{drop}
-use Rattle.alc.specs.Lists.{any}
-use Rattle.alc.specs.Shown.{records}
 use Rattle.goals.specs.Records.{has_name}
 use Rattle.goals.proofs.RecordLaws.{any_here, any_next, any_end}
 use Rattle.goals.proofs.occurs.Goals as goal

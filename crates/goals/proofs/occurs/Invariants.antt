@@ -1,12 +1,10 @@
 -- The invariant and measure of the loop.
 use Prim.Native.Nat.{◌≤◌, ◌-◌}
-use mathlib.Core.Path.{◌≡◌, refl, sym, ◌∙◌}
-use native.Mathlib.Omega.{arith}
+use mathlib.Core.Path.{◌≡◌}
 use lib.ListN.{drop}
 use Rattle.alc.specs.Lists.{any}
 use Rattle.alc.specs.Shown.{records}
 use Rattle.goals.specs.Records.{has_name}
-use Rattle.goals.proofs.RecordLaws.{any_here, any_next, any_end}
 use Rattle.goals.proofs.occurs.Given as goal
 
 abbrev pub invariant-loop-i : goal.invariant-loop-i

@@ -25,4 +25,4 @@ returns-then-c-d-6 c = sym (is_false _ (λ e. c.if-c-d-6.true (ap (λ (x : Recor
 
 pub returns : goal.returns
 returns c =
-    same_last _ _ c.if-c-d-4.false c.if-c-d-3.false c.if-c-d-2.false c.if-c-d-6.false c.if-c-d.false c.if-c-d-5.false
+    same_last c.args.c c.args.d c.if-c-d-4.false c.if-c-d-3.false c.if-c-d-2.false c.if-c-d-6.false c.if-c-d.false c.if-c-d-5.false
