@@ -16,7 +16,7 @@ use sets::{full, inside, marked, meets, outside, set_of};
 // The elements of a size with an edge of the role into the set.
 fn reaching(size: u8, edges: &[u32; 512], r: alc::Role, s: u32) -> u32
     requires sized { Sized size }
-    requires r_bound { r.0 < 16 }
+    requires role_in { r.0 < 16 }
     ensures { (d : ℕ) → bit result d ≡ (ltb d size && common (get_or edges.now (r.0 * 32 + d) 0) s) }
 {
     let row = (r.0 as usize) * 32;
@@ -41,7 +41,7 @@ fn atom_of(atoms: &[u32; 64], a: alc::Atom) -> u32
 // The elements of a size with an edge of the role into the set: what `some` has.
 fn some_in(size: u8, edges: &[u32; 512], r: alc::Role, s: u32) -> u32
     requires sized { Sized size }
-    requires r_bound { r.0 < 16 }
+    requires role_in { r.0 < 16 }
     ensures { (d : ℕ) → bit result d ≡ (ltb d size && some_below size (λ e. edge_in edges.now r.0 d e && bit s e)) }
 {
     reaching(size, edges, r, inside(size, s))
@@ -50,7 +50,7 @@ fn some_in(size: u8, edges: &[u32; 512], r: alc::Role, s: u32) -> u32
 // The elements of a size with no edge of the role out of the set, so those with no edge too: what `all` has.
 fn all_in(size: u8, edges: &[u32; 512], r: alc::Role, s: u32) -> u32
     requires sized { Sized size }
-    requires r_bound { r.0 < 16 }
+    requires role_in { r.0 < 16 }
     ensures { (d : ℕ) → bit result d ≡ (ltb d size && every_below size (λ e. not (edge_in edges.now r.0 d e) || bit s e)) }
 {
     outside(size, reaching(size, edges, r, outside(size, s)))
@@ -67,7 +67,7 @@ fn extent(
     edges: &[u32; 512],
 ) -> u32
     requires sized { Sized size }
-    requires all { All (Below 256 0) (fields_by (kind_at kind) x y) }
+    requires numbers_in { All (Below 256 0) (fields_by (kind_at kind) x y) }
     ensures { (d : ℕ) → d < size → bit result d ≡ extentOf (world_of size atoms.now edges.now) (kind_at kind) x y (λ p. bit (get_or ext.now p 0)) d }
 {
     match kind {

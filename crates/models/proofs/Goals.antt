@@ -24,7 +24,7 @@ use Rattle.models.specs.Shown.{Below, is_seated, Claimed, Seated, Fit}
 
 -- what a function is told of a goal that it is passed
 pub goal-length : (g : Records) (vs : List Val) → Is (row the_type) g vs → length g.claims ≡ 64
-goal-length g vs p = sym (length-map g.claims _) ∙ p.1.1.0.1.0.1
+goal-length g vs p = p.1.1.0.1.0.1
 
 pub claim_back : (c : Record) → claim (sided_of c) ≡ claim_of c
 claim_back c = go (eqb c.side 1)

@@ -2,12 +2,8 @@
 use native.Mathlib.Omega.{arith}
 use Rattle.sets.specs.Bit.{common}
 use Rattle.sets.proofs.BitLaws.{bit_meets}
-use Rattle.sets.proofs.meets.Statement.{statement}
-use Rattle.sets.proofs.meets.Tie as tie
+use Rattle.sets.proofs.meets.Goals as goal
 
-returns : tie.Need-returns
+pub returns : goal.returns
 unfolding common
 returns c = bit_meets 32 c.args.x c.args.y (omega arith) (omega arith)
-
-pub meets-spec : {M : Type 1} → statement M
-meets-spec = tie.close (tie.spec returns)
