@@ -4,11 +4,13 @@
 ghost use Rattle.std.specs.Prelude.{length, ◌≤◌};
 
 use alc::Answer;
+use std::io::Read;
 
 // 65,536 bytes are enough to decide: a text that fills them is too long.
-fn main() {
+fn main(rt: HostRuntime) {
     let mut text = io::large_buffer();
-    let r = read_all(&mut text);
+    let mut input = rt.stdin();
+    let r = read_all(&mut input, &mut text);
     let n = r.count;
     if r.failed {
         io::write_all(2, b"judge: standard input can't be read\n");
@@ -24,24 +26,26 @@ struct Input {
     failed: bool,
 }
 
-// Reads from standard input until the buffer is full, the input ends or a read fails.
-fn read_all(buf: &mut [u8]) -> Input
+// Reads until the buffer is full, the input ends or a read fails.
+fn read_all<R: Read>(input: &mut R, buf: &mut [u8]) -> Input
     ensures { result.count ≤ length buf.new }
 {
     let mut done: usize = 0;
     while done < buf.len() {
-        let got = libc::read(0, &mut buf[done..]);
-        if got < 0 {
-            return Input {
-                count: done,
-                failed: true,
-            };
+        match input.read(&mut buf[done..]) {
+            Ok(more) => {
+                if more == 0 {
+                    break;
+                }
+                done += more;
+            }
+            Err(_) => {
+                return Input {
+                    count: done,
+                    failed: true,
+                };
+            }
         }
-        let more = io::count(got, &buf[done..]);
-        if more == 0 {
-            break;
-        }
-        done += more;
     }
     Input {
         count: done,

@@ -1,2 +1,0 @@
--- `Lent`: the types and contracts of the functions over a lent room.
-pub mod Lent
