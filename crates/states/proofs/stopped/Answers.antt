@@ -2,19 +2,14 @@
 use Prim.Native.Nat.{ℕ}
 use mathlib.Core.Bool.{true}
 use mathlib.Core.Path.{ap}
-use borrow.Author.Rules.{rules}
 use Rattle.goals.specs.declared.Turn.{Turn}
 use Rattle.states.specs.declared.State.{State}
 use Rattle.states.specs.declared.Act.{Act}
-use Rattle.states.proofs.stopped.Statement.{statement}
 use Rattle.states.specs.Standing.{asks_nothing}
-use Rattle.states.proofs.stopped.Tie as tie
+use Rattle.states.proofs.stopped.Goals as goal
 
 abbrev by : State → ℕ → ℕ → Turn → Act
 by s k line t = record { kind = asks_nothing; base = 0; count = 0; turn = t; «open» = s.open; steps = s.steps; lines = line; at = s.at; ended = true; number = k }
 
-returns : tie.Need-returns
-returns c = let a = c.before.args in ap (by a.s a.number a.line) c.idle.ensures
-
-pub stopped-spec : {M : Type 1} → statement M
-stopped-spec = tie.close (tie.spec (λ c κs. search rules) returns)
+pub returns : goal.returns
+returns c = let a = c.args in ap (by a.s a.number a.line) c.idle.ensures

@@ -1,12 +1,8 @@
 -- `states::begun` meets its contract: the record is written out as the definition has it. Assumes nothing.
 use mathlib.Core.Path.{refl}
 use Rattle.states.specs.Standing.{no_counts}
-use Rattle.states.proofs.begun.Statement.{statement}
-use Rattle.states.proofs.begun.Tie as tie
+use Rattle.states.proofs.begun.Goals as goal
 
-returns : tie.Need-returns
+pub returns : goal.returns
 unfolding no_counts
 returns c = refl
-
-pub begun-spec : {M : Type 1} → statement M
-begun-spec = tie.close (tie.spec returns)
