@@ -9,7 +9,7 @@ use mathlib.Core.Bool.{Bool, true, false, not, cond, ◌&&◌, ◌||◌, decide,
 use mathlib.Core.List.{List, [], ◌∷◌, ◌++◌, append-nil, append_assoc}
 use mathlib.Core.Path.{◌≡◌, refl, sym, ap, ap₂, ◌∙◌}
 use lib.Dec.{eqb, ltb, leb}
-use lib.ListN.{length, get_or, take, drop, set, drop_of_length-le, length-map, length-append, length-drop, length-set, get_or-append}
+use lib.ListN.{length, get_or, take, drop, set, drop_of_length-le, length-append, length-drop, length-set, get_or-append}
 use mir.Val.{Val}
 use denote.Laws.{Is}
 use denote.Struct.Declared as declared
@@ -79,7 +79,7 @@ module _ (a : ℕ) (c : Record) where
 -- the records of a goal that is passed: how many, and each
 module _ (g : Records) (vs : List Val) (told : Is (declared.row the_type) g vs) (few : g.count ≤ 64) where
   pub all-length : length g.claims ≡ 64
-  all-length = sym (length-map g.claims _) ∙ told.1.1.0.1.0.1
+  all-length = told.1.1.0.1.0.1
 
   pub records-length : length (records g) ≡ g.count
   records-length = length-take-le g.count g.claims (omega (arith, all-length))

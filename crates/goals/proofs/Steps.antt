@@ -22,7 +22,7 @@ use Rattle.alc.proofs.ShownLaws.{record_once}
 use Rattle.alc.proofs.Logic.{bool_by, not_or}
 use Rattle.alc.specs.declared.Claim.{Claim as Record}
 use Rattle.goals.specs.declared.Turn.{Turn}
-use Rattle.goals.specs.Records.{same_record, has_name, lacking, keeping, added, Ruling, ruling, new_in, kept_by, record_rows, premise_at, Turns}
+use Rattle.goals.specs.Records.{same_record, has_name, lacking, keeping, added, Ruling, ruling, kept_by, record_rows, premise_at, Turns}
 use Rattle.goals.proofs.RecordLaws.{same_eq, eq_same}
 
 same_record_lem : (s t : Sided) → same_record (record_of s) (record_of t) ≡ same s t
@@ -155,7 +155,7 @@ module _ (u : Ruling) (l : List Record) (w : ℕ) (e : refusal (record_rows u l 
   past_8 =
       let e6 = cond_zero u.asked _ 6 six e in
       let e7 = cond_zero (every (λ c. any (same_record c) l) u.needed) _ 7 seven e6.1 in
-      (cond_zero (new_in u.news l) _ 8 eight e7.1).1
+      (cond_zero _ _ 8 eight e7.1).1
     where
       six : ◌≡◌ {A = ℕ} 6 0 → ⊥
       six h = omega arith
