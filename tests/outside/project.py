@@ -4,10 +4,11 @@ import pathlib
 import subprocess
 
 ROOT = pathlib.Path(__file__).resolve().parents[2]
+PROGRAM = "crates/judge/out/judge"
 
 
 def judge():
     """The judging program, made anew where a file of the crates is newer, so that no old one is compared."""
-    if subprocess.run(["bash", ROOT / "tests/fresh", "target/bin/judge", "rt", "check", "judge"], check=False).returncode != 0:
+    if subprocess.run(["bash", ROOT / "tests/fresh", PROGRAM, "env", "-C", "crates/judge", "rt", "run"], check=False).returncode != 0:
         raise SystemExit(2)
-    return str(ROOT / "target/bin/judge")
+    return str(ROOT / PROGRAM)
