@@ -1,0 +1,20 @@
+-- `words::fact_word` meets its contract: it compares with each of these words, and a field is one word at most. Assumes nothing.
+use Rattle.lines.specs.Text.{words, row_of, row_index}
+use Rattle.lines.proofs.Words.{hit, missed, spelled, rest_none}
+use Rattle.words.proofs.fact_word.Goals as goal
+
+pub returns-then-same : goal.returns-then-same
+unfolding words row_of row_index spelled
+returns-then-same c = search hit
+
+pub returns-then-same-2 : goal.returns-then-same-2
+unfolding words row_of row_index spelled
+returns-then-same-2 c = search hit
+
+pub returns-then-same-3 : goal.returns-then-same-3
+unfolding words row_of row_index spelled
+returns-then-same-3 c = search hit
+
+pub returns : goal.returns
+unfolding words row_of row_index spelled
+returns c = rest_none _ _ _ _ (search missed)
