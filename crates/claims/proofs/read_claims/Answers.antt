@@ -1,0 +1,84 @@
+-- `claims::read_claims` meets its contract. The invariant: the lines read have passed, and the goal shows their claims, whatever the table of so
+-- many lines. The measure is what is left of the text. Assumes nothing.
+use Prim.Native.Nat.{ℕ, ◌≤◌, ◌<◌}
+use mathlib.Core.List.{List}
+use mathlib.Core.Path.{◌≡◌, sym, ◌∙◌}
+use native.Mathlib.Omega.{arith}
+use lib.ListN.{length}
+use Rattle.lines.specs.Text.{at_claims}
+use Rattle.lines.specs.Walk.{claims_from, steps_from, read_at}
+use Rattle.lines.specs.declared.Line.{Line}
+use Rattle.lines.specs.declared.Next.{Next}
+use Rattle.lines.specs.declared.Next.TheVariants.{Bad, End}
+use Rattle.reading.proofs.Loop.{Line-found, when_found}
+use Rattle.alc.specs.Table.{Table}
+use Rattle.alc.specs.declared.Goal.{Goal as Records}
+use Rattle.goals.proofs.RecordLaws.{with_more, with_count}
+use Rattle.parts.specs.Parts.{ClaimsEnd, wrong, over, ClaimsRead}
+use Rattle.claims.proofs.ClaimWalk.{Walk, walk_begin, walk_more, stops, fails, turns, room, stands_among}
+use Rattle.claims.proofs.read_claims.Goals as goal
+
+-- the line that was found
+word : {text : List ℕ} {at : ℕ} {l : Line} {to : ℕ} → Line-found text at at_claims l to → (claims_from ≤ l.word) × (l.word < steps_from)
+word {l = l} f = stands_among l f.allowed
+
+-- what the walk came to, where it is refused
+module _ (text : List ℕ) (start entries at n : ℕ) (g : Records) (few : g.count ≤ 64) (v : (T : Table) → length T ≡ entries → Walk text T start g at n) where
+  stopped : (k : ℕ) (x : Next) → read_at text at at_claims ≡ x → ((T : Table) (q : length T ≡ entries) → ClaimsEnd T (v T q).cs x k)
+      → (T : Table) → length T ≡ entries → ClaimsRead text T start (record { number = k; section = 0; at = at; lines = n; claims = g })
+  stopped k x e d T q =
+      let w = v T q in
+      record { cs = w.cs; shown = w.shown; few = few; ranges = w.ranges; leads = stops _ T _ _ _ _ w x k e (d T q) }
+
+pub loop-l-init : goal.loop-l-init
+loop-l-init c =
+    let e = c.empty-claims.ensures in
+    (omega arith, omega arith, omega (arith, e.1), λ T q. walk_begin _ T _ _ _ q e.0 e.1)
+
+pub returns-then-l-ge-PROOF : goal.returns-then-l-ge-PROOF
+returns-then-l-ge-PROOF c = λ T q.
+    let v = c.loop-l.invariant.3 T q in
+    let r = sym c.read.ensures ∙ c.in-Found.is in
+    let h = c.if-l-ge-PROOF.true in
+    record {
+      cs = v.cs;
+      shown = v.shown;
+      few = c.loop-l.invariant.2;
+      ranges = v.ranges;
+      leads = turns _ T _ _ _ _ v _ _ r _ (omega (arith, h)) (omega (arith, h)) (omega (arith, h, (word (when_found _ _ _ _ _ r)).1));
+    }
+
+pub returns-then-k-ne0 : goal.returns-then-k-ne0
+returns-then-k-ne0 c =
+    let r = sym c.read.ensures ∙ c.in-Found.is in
+    stopped _ _ _ _ _ _ c.loop-l.invariant.2 c.loop-l.invariant.3 _ _ r
+    (λ T q. fails _ T _ _ _ _ (c.loop-l.invariant.3 T q) _ _ r c.if-l-ge-PROOF.false c.args.entries _ q c.claim_refusal-k.ensures c.if-k-ne0.true)
+
+pub made_claim-requires : goal.made_claim-requires
+made_claim-requires c = ((word (when_found _ _ _ _ _ (sym c.read.ensures ∙ c.in-Found.is))).0, c.if-l-ge-PROOF.false)
+
+pub loop-l-smaller : goal.loop-l-smaller
+loop-l-smaller c = let f = when_found _ _ _ _ _ (sym c.read.ensures ∙ c.in-Found.is) in omega (arith, f.later, f.within)
+
+pub loop-l-preserved : goal.loop-l-preserved
+loop-l-preserved c =
+    let i = c.loop-l.invariant in
+    let r = sym c.read.ensures ∙ c.in-Found.is in
+    let f = when_found _ _ _ _ _ r in
+    let w = c.with-claims.ensures in (
+      f.within,
+      omega (arith, f.later, i.1),
+      with_count _ _ i.2 w.1,
+      λ T q.
+          let v = i.3 T q in
+          let z = sym c.if-k-ne0.false ∙ c.claim_refusal-k.ensures in
+          let less = room _ T _ _ _ _ v _ _ r c.if-l-ge-PROOF.false c.args.entries q c.requires.2 z in
+          walk_more _ T _ _ _ _ v _ _ r c.if-l-ge-PROOF.false c.args.entries q c.requires.2 z c.with-claims.result _ c.made_claim.ensures
+          (with_more c.loop-l.claims.count _ _ _ less w.0) (with_more c.loop-l.claims.count _ _ _ less w.1),
+    )
+
+pub returns-in-Bad : goal.returns-in-Bad
+returns-in-Bad c = stopped _ _ _ _ _ _ c.loop-l.invariant.2 c.loop-l.invariant.3 2 Bad (sym c.read.ensures ∙ c.in-Bad.is) (λ T q. wrong)
+
+pub returns-in-End : goal.returns-in-End
+returns-in-End c = stopped _ _ _ _ _ _ c.loop-l.invariant.2 c.loop-l.invariant.3 12 End (sym c.read.ensures ∙ c.in-End.is) (λ T q. over)
