@@ -1,6 +1,6 @@
 -- A line of the steps as a step: its word is one of those of the steps, so what it says is the step of that word; its numbers fit a byte where
 -- they are in their ranges; and the judge's rows of it are those that are tested. Assumes nothing.
-use Prim.Native.Nat.{ℕ, suc, ◌+◌, ◌-◌, ◌≤◌, ◌<◌, ◌%◌}
+use Prim.Native.Nat.{ℕ, suc, ◌≤◌, ◌<◌, ◌%◌}
 use native.Mathlib.Omega.{arith}
 use mathlib.Core.Bool.{Bool, true, false, cond}
 use mathlib.Core.List.{List, [], ◌∷◌, ◌++◌, map}

@@ -222,6 +222,7 @@ module _ (text ks xs ys : List ℕ) (entries : ℕ) (s : State) (v : Ready text 
               at g sg cs x hs [] (none o) e = absurd (omega (arith, o, h))
               at g sg cs x hs (y ∷ []) (one k o sy) e = Leading.carries x y hs refl v.going refl refl (sg ∙ sy) e
               at g sg cs x hs (y ∷ y' ∷ []) (two a b o sa sb) e = absurd (omega (arith, o, h))
+              at g sg cs x hs (y ∷ (y' ∷ (_ ∷ _))) r e = elim r [ ]
 
               go : (g : Records) → records g ≡ premise_at 0 u (records s.goal) → (cs : List Sided) (gs : List Goal) → s.open ≡ length gs → Current s.goal gs
                   → Acts T cs text s onto (after_of s onto g) gs
@@ -275,6 +276,7 @@ module _ (text ks xs ys : List ℕ) (entries : ℕ) (s : State) (v : Ready text 
               at g sg n cs x hs (y ∷ []) q (one _ o sy) e = absurd (omega (arith, o, h))
               at g sg n cs x hs (y ∷ y' ∷ []) q (two a b o sa sb) e =
                   Leading.parts x y y' hs refl v.going refl (ap (λ (k : ℕ). k * 64) q) (ap₂ (λ (k m : ℕ). set s.counts k m) q (sym (size_of g n))) (sg ∙ sa) sb e
+              at g sg n cs x hs (y ∷ (y' ∷ (_ ∷ _))) q r e = elim r [ ]
 
               go : (g : Records) → records g ≡ premise_at 0 u (records s.goal) → Sized g → (cs : List Sided) (gs : List Goal) → s.open ≡ length gs → Current s.goal gs
                   → Acts T cs text s apart (after_of s apart g) gs
@@ -296,6 +298,7 @@ module _ (text ks xs ys : List ℕ) (entries : ℕ) (s : State) (v : Ready text 
               closed_at cs x hs [] (none o) e = e
               closed_at cs x hs (y ∷ []) (one k o sy) e = absurd (omega (arith, o, h))
               closed_at cs x hs (y ∷ y' ∷ []) (two a b o sa sb) e = absurd (omega (arith, o, h))
+              closed_at cs x hs (y ∷ (y' ∷ (_ ∷ _))) r e = elim r [ ]
 
               left : (cs : List Sided) (x : Goal) (hs : List Goal) → s.open ≡ suc (length hs) → Shows s.goal x → whole cs (x ∷ hs) ≡ behind_line cs hs
               left cs x hs q c = closed_at cs x hs (premises (plan T (step_in l)) x) (leaves x hs q c) (passes cs x hs q c)
