@@ -8,7 +8,7 @@ ghost use Rattle.alc.specs.Table.{fields_by};
 ghost use Rattle.alc.specs.Shown.{kind_at, table_of};
 ghost use Rattle.sets.specs.Bit.{bit, common, Sized};
 ghost use Rattle.models.specs.Shown.{world_of, edge_in, Below, Tabled};
-ghost use Rattle.extents.specs.Extent.{extent as extentOf, Extended};
+ghost use Rattle.extents.specs.Extent.{extent as extent_of, Extended};
 
 use alc::kinds;
 use sets::{full, inside, marked, meets, outside, set_of};
@@ -68,7 +68,7 @@ fn extent(
 ) -> u32
     requires sized { Sized size }
     requires numbers_in { All (Below 256 0) (fields_by (kind_at kind) x y) }
-    ensures { (d : ℕ) → d < size → bit result d ≡ extentOf (world_of size atoms.now edges.now) (kind_at kind) x y (λ p. bit (get_or ext.now p 0)) d }
+    ensures { (d : ℕ) → d < size → bit result d ≡ extent_of (world_of size atoms.now edges.now) (kind_at kind) x y (λ p. bit (get_or ext.now p 0)) d }
 {
     match kind {
         kinds::BOT => 0,

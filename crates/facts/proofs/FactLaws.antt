@@ -6,7 +6,7 @@ use mathlib.Core.Bool.{Bool, true, false, not}
 use mathlib.Core.List.{List, [], map}
 use mathlib.Core.Path.{◌≡◌, refl, sym, ap, subst, ◌∙◌}
 use lib.ListN.{length, get_or, drop}
-use Rattle.lines.specs.Text.{at_size, at_facts, words, word_count, row_of, stands as allowedAt, lines_of}
+use Rattle.lines.specs.Text.{at_size, at_facts, words, word_count, row_of, stands as allowed_at, lines_of}
 use Rattle.lines.specs.Walk.{size_from, facts_from}
 use Rattle.lines.specs.declared.Line.{Line}
 use Rattle.lines.proofs.Told.{Told, told}
@@ -34,11 +34,11 @@ pub found_told : (text : List ℕ) (at p : ℕ) (l : Line) (to : ℕ) → Line-f
 found_told text at p l to f = told (drop at text) l (lines_of (drop to text)) f.lines
 
 -- the words that stand at a place
-pub fact_word : (l : Line) → allowedAt at_facts l ≡ true → facts_from ≤ l.word
+pub fact_word : (l : Line) → allowed_at at_facts l ≡ true → facts_from ≤ l.word
 unfolding words row_of
 fact_word l a = (spanned at_facts facts_from word_count (omega arith) refl l.word a).0
 
-pub size_word : (l : Line) → allowedAt at_size l ≡ true → l.word ≡ size_from
+pub size_word : (l : Line) → allowed_at at_size l ≡ true → l.word ≡ size_from
 unfolding words row_of
 size_word l a = omega (arith, spanned at_size size_from facts_from (omega arith) refl l.word a)
 

@@ -54,7 +54,7 @@ fn read_facts(
     atoms: &mut [u32; 64],
     edges: &mut [u32; 512],
 ) -> Heard
-    requires start_in_bounds { (start ≤ length text.now) × (before ≤ start) × (entries ≤ 256) × (size ≤ 32) }
+    requires bounds { (start ≤ length text.now) × (before ≤ start) × (entries ≤ 256) × (size ≤ 32) }
     requires tells { Tells size [] places.old atoms.old edges.old }
     ensures { FactsRead text.now start before entries size places.new atoms.new edges.new result }
 {
@@ -107,11 +107,11 @@ fn ended(
     atoms: &[u32; 64],
     edges: &[u32; 512],
 ) -> Answer
-    requires n_bound { n < 18446744073709551615 }
+    requires countable { n < 18446744073709551615 }
     requires tabled { Tabled kinds.now firsts.now seconds.now entries }
     requires sized { Sized size }
     requires claimed { Claimed entries claims }
-    requires by_index { (a : ℕ) → All (λ d. d < size) (seats_of places.now a) }
+    requires places_inside { (a : ℕ) → All (λ d. d < size) (seats_of places.now a) }
     ensures { (fs : List Fact) → Tells size fs places.now atoms.now edges.now → answered result ≡ modelled n (in_facts (table_of kinds.now firsts.now seconds.now entries) (claims_in claims) size fs) }
 {
     if !truth::all_placed(claims, places) {

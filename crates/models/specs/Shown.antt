@@ -76,7 +76,7 @@ pub record EdgeSet (old new : List ℕ) (r d e : ℕ) (fresh : Bool) : Type 0 wh
   pub answer : fresh ≡ not (edge_in old r d e)
   pub world : (n : ℕ) (atoms : List ℕ) → world_of n atoms new ≡ with_edge (world_of n atoms old) r d e
 
--- the number is in its range, with n lines in the table and k elements (`inRange` as a fact)
+-- the number is in its range, with n lines in the table and k elements (`in_range` as a fact)
 abbrev pub Below : ℕ → ℕ → Field → Type 0
 Below n k (role r) = r < 16
 Below n k (atom A) = A < 64
