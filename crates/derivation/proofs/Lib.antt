@@ -1,4 +1,2 @@
--- `Waits`: one line over the room. `Tables`: the types and contracts of the functions over it. `Covered`: the functions by value that they call.
+-- `Waits`: one line over the room.
 pub mod Waits
-pub mod Tables
-pub mod Covered
