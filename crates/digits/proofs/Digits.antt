@@ -1,9 +1,9 @@
 -- Laws of reading a number digit by digit: what is left of it is a number behind the digits that were read. Assumes nothing.
 use Prim.Native.Nat.{ℕ, suc, ◌+◌, ◌-◌, ◌*◌, ◌≤◌, ◌<◌}
 use mathlib.Core.List.{List, [], ◌∷◌}
-use mathlib.Core.Path.{◌≡◌, refl, sym}
+use mathlib.Core.Path.{◌≡◌, refl, sym, ap, ◌∙◌}
 use mathlib.Core.Bool.{Bool, true, false, not, ◌&&◌, ◌||◌, and-false, and_assoc, or-true}
-use lib.ListN.{length}
+use lib.ListN.{length, get_or, drop}
 use lib.Dec.{eqb, leb}
 use native.Mathlib.Nat.{lt_of_lt_of_le, add-zero}
 use native.Mathlib.Omega.{arith}
@@ -13,7 +13,7 @@ use Rattle.lines.specs.Walk.{parting, field_of}
 use Rattle.digits.specs.Number.{num_by, number_in}
 use Rattle.digits.specs.declared.Num.{Num}
 use Rattle.digits.specs.declared.Num.TheVariants.{Is, Not}
-use Rattle.lines.proofs.Laws.{and_left, and_right, every_more, field_none, field_here, field_on}
+use Rattle.lines.proofs.Laws.{and_left, and_right, every_more, field_none, field_here, field_on, here}
 
 -- DIGITS
 pub digit_low : (d : ℕ) → digit d ≡ true → 48 ≤ d
@@ -133,6 +133,10 @@ module _ (v i : ℕ) where
           let n : i + suc (length (field_of xs)) ≡ i + 1 + length (field_of xs) = omega arith in
           let w : v * 10 + (d - 48) ≡ 0 → ⊥ = λ p. z (omega arith) in
           rw (field_on d xs e, h, ne_eqb v 0 z, ne_eqb (v * 10 + (d - 48)) 0 w, or-true (none (field_of xs)), n)
+
+-- at a place of a text, behind a 0 that leads
+pub zero_leads : (text : List ℕ) (v i : ℕ) → i < length text → parting (get_or text i 0) ≡ false → v ≡ 0 → onward v i (drop i text) ≡ Not
+zero_leads text v i h e z = ap (onward v i) (here text i h) ∙ onward_zero v i (get_or text i 0) (drop (i + 1) text) e z
 
 -- WHAT THE ANSWER SAYS of the field
 by_is : (t : Bool) (v n w e : ℕ) → num_by t v n ≡ Is w e → (t ≡ true) × (w ≡ v) × (e ≡ n)

@@ -17,7 +17,6 @@ use Rattle.digits.proofs.Digits.{
   onward_none,
   onward_parted,
   onward_not,
-  onward_zero,
   onward_large,
   onward_more,
 }
@@ -58,10 +57,6 @@ pub returns-then-not-is_digit-2 : goal.returns-then-not-is_digit-2
 returns-then-not-is_digit-2 c =
     sym (goes _ _ _ _ c.loop-i.invariant.1 c.loop-i-test.true ∙ onward_not _ _ _ _ (sym c.parts.ensures ∙ c.if-parts.false) (sym c.is_digit-in-loop-i.ensures ∙ c.if-not-is_digit-2.true))
 
-pub returns-then-v-eq0 : goal.returns-then-v-eq0
-returns-then-v-eq0 c =
-    sym (goes _ _ _ _ c.loop-i.invariant.1 c.loop-i-test.true ∙ onward_zero _ _ _ _ (sym c.parts.ensures ∙ c.if-parts.false) c.if-v-eq0.true)
-
 pub overflow_sub-v-in-loop-i : goal.overflow_sub-v-in-loop-i
 overflow_sub-v-in-loop-i c = digit_low _ (sym c.is_digit-in-loop-i.ensures ∙ c.if-not-is_digit-2.false)
 
@@ -79,7 +74,7 @@ pub loop-i-preserved : goal.loop-i-preserved
 loop-i-preserved c = (
   c.if-v-gt65535.false,
   goes _ _ _ _ c.loop-i.invariant.1 c.loop-i-test.true
-      ∙ onward_more _ _ _ _ (sym c.parts.ensures ∙ c.if-parts.false) (sym c.is_digit-in-loop-i.ensures ∙ c.if-not-is_digit-2.false) c.if-v-eq0.false,
+      ∙ onward_more _ _ _ _ (sym c.parts.ensures ∙ c.if-parts.false) (sym c.is_digit-in-loop-i.ensures ∙ c.if-not-is_digit-2.false) (λ e. omega arith),
 )
 
 pub returns : goal.returns
