@@ -1,7 +1,8 @@
 // The judging program: a dossier from standard input, one line out: word, number and line, parted by tabs.
 #![tactic(auto)]
 
-ghost use Rattle.std.specs.Prelude.{length, ◌≤◌};
+ghost use Rattle.std.specs.Prelude.{◌≡◌, ◌<◌, ◌≤◌, false, length, take};
+ghost use Rattle.std.specs.Io.KnownBytes.{Consumes, IsAtEnd};
 
 use alc::Answer;
 use std::io::Read;
@@ -26,9 +27,12 @@ struct Input {
     failed: bool,
 }
 
-// Reads until the buffer is full, the input ends or a read fails.
+// Reads until the buffer is full, the input ends or a read fails. What was read stands in front, in order, and is what the input has lost; where no read
+// failed and the buffer isn't full, the input is at its end.
 fn read_all<R: Read>(input: &mut R, buf: &mut [u8]) -> Input
-    ensures { result.count ≤ length buf.new }
+    ensures count { result.count ≤ length buf.new }
+    ensures bytes { Consumes (R.remaining input.old) (R.remaining input.new) (take result.count buf.new) }
+    ensures all { result.failed ≡ false → result.count < length buf.new → IsAtEnd (R.remaining input.new) }
 {
     let mut done: usize = 0;
     while done < buf.len() {
