@@ -57,6 +57,13 @@ opens_decided n text o a e none h = record {
   unused = subst Unused (sym e.0) (λ i _. (refl, refl, refl));
 }
 
+-- so where the room is narrow, and where the text is long
+pub opens_narrow : (n : ℕ) (text : List ℕ) (o : Opening) → o ≡ decided_of (Answer.Refused 14 0) (begun_of o.state.goal 0 0) → o.state.goal.count ≡ 0 → n < 1088 → Opens n text o
+opens_narrow n text o e z h = opens_decided n text o _ (e, z) (λ T cs lines at d. omega (arith, h, d.wide)) (sym (verdict_narrow n text h))
+
+pub opens_long : (n : ℕ) (text : List ℕ) (o : Opening) → o ≡ decided_of (Answer.Refused 1 0) (begun_of o.state.goal 0 0) → o.state.goal.count ≡ 0 → 1088 ≤ n → 65535 < length text → Opens n text o
+opens_long n text o e z w h = opens_decided n text o _ (e, z) (λ T cs lines at d. omega (arith, h, d.short)) (sym (verdict_long n text w h))
+
 -- an opening after which one does
 pub opens_following : (n : ℕ) (text : List ℕ) (o : Opening) (entries : ℕ) (ks xs ys : List ℕ) (claims : Records) (at lines : ℕ) (cs : List Sided)
     → o ≡ following_of entries ks xs ys (begun_of claims at lines)
