@@ -1,5 +1,2 @@
--- `Runs`: what an opening comes to after which a derivation follows. `Tables`: the types and contracts of the functions over the room.
--- `Covered`: the functions by value that they call.
+-- `Runs`: what an opening comes to after which a derivation follows.
 pub mod Runs
-pub mod Tables
-pub mod Covered
