@@ -1,10 +1,8 @@
 -- `derivation::judge_steps` meets its contract: a line leads the derivation on, and the verdict at the end is that from the beginning. Assumes nothing.
-use Prim.Native.Nat.{ℕ}
-use mathlib.Core.Path.{ap, ◌∙◌}
+use mathlib.Core.Path.{◌≡◌, ◌∙◌}
 use native.Mathlib.Omega.{arith}
-use lib.ListN.{replicate}
+use lib.ListN.{length}
 use borrow.Author.Tests.{not-true, not-false}
-use Rattle.alc.specs.Shown.{blank}
 use Rattle.derivation.proofs.Waits.{fewer, holds_first, holds_next}
 use Rattle.derivation.proofs.judge_steps.Goals as goal
 
@@ -25,4 +23,5 @@ loop-cur-preserved c =
 pub returns : goal.returns
 returns c =
     let inv = c.loop-cur.invariant in
-    (λ cs v st. c.answer_of.ensures ∙ (inv.after cs v st).there (not-false c.loop-cur.cur.ended c.loop-cur-test.false), c.blank_all.ensures ∙ ap (λ (n : ℕ). replicate n blank) inv.long)
+    let long : length c.loop-cur.room ≡ length c.args.room.now = inv.long in
+    (λ cs v st. c.answer_of.ensures ∙ (inv.after cs v st).there (not-false c.loop-cur.cur.ended c.loop-cur-test.false), cc)
