@@ -4,7 +4,7 @@ use std::path::Path;
 
 fn main() {
     let root = std::env::var("CARGO_MANIFEST_DIR").expect("cargo sets it");
-    let folder = Path::new(&root).join("../../crates/outside/out");
+    let folder = Path::new(&root).join("../../target/staticlib");
     println!("cargo:rustc-link-search=native={}", folder.display());
     println!(
         "cargo:rerun-if-changed={}",

@@ -1,4 +1,4 @@
-// The judge for programs in other languages: a static library's one function.
+// The judge for programs in other languages: a verdict as one number. `outside_c` hands it out as a static library.
 #![tactic(auto)]
 
 ghost use Rattle.std.specs.Prelude.{◌≡◌, length, replicate};
@@ -17,8 +17,7 @@ const REFUSED: u8 = 2;
 
 // Judges a text in a room that the caller lends, which is blank afterwards. The verdict comes back as one number: 8 bits of the word, 8 of the number
 // and 32 of the line, from the lowest up.
-#[unsafe(no_mangle)]
-pub extern "C" fn outside_judge(room: &mut [Claim], text: &[u8]) -> u64
+pub fn outside_judge(room: &mut [Claim], text: &[u8]) -> u64
     ensures answer { result ≡ packed (verdict (length room.old) text.now) }
     ensures room { room.new ≡ replicate (length room.old) blank }
 {
