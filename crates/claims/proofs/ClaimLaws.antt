@@ -5,6 +5,7 @@ use mathlib.Core.List.{List, map}
 use mathlib.Core.Path.{◌≡◌, refl, sym, ap, ◌∙◌}
 use lib.Dec.{eqb, ltb}
 use lib.ListN.{length, get_or, drop}
+use borrow.Author.Tests.{le-ltb}
 use Rattle.lines.specs.Text.{on_left, on_right}
 use Rattle.lines.specs.Walk.{claims_from, sections_from}
 use Rattle.lines.specs.declared.Line.{Line}
@@ -28,6 +29,9 @@ module _ (e n : ℕ) (l : Line) where
   pub claim_5 : ltb n 64 ≡ false → 5 ≡ refusal (claim_rows e n l)
   unfolding claim_rows
   claim_5 h = rw h
+
+  pub claim_full : 64 ≤ n → 5 ≡ refusal (claim_rows e n l)
+  claim_full h = claim_5 (le-ltb n 64 h)
 
   pub claim_3 : ltb n 64 ≡ true → every (in_range e 0) (said_fields (saying l)) ≡ false → 3 ≡ refusal (claim_rows e n l)
   unfolding claim_rows

@@ -45,6 +45,7 @@ fn made_claim(l: Line) -> Claim
 }
 
 // The number of the first row that a claim does not pass, behind so many others, or 0.
+#[tactic(auto, using(crate::proofs::ClaimLaws::claim_full))]
 fn claim_refusal(l: Line, entries: usize, claims: usize) -> u8
     requires { l.word < word_count }
     ensures { result ≡ refusal (claim_rows entries claims l) }

@@ -134,9 +134,12 @@ module _ (v i : ℕ) where
           let w : v * 10 + (d - 48) ≡ 0 → ⊥ = λ p. z (omega arith) in
           rw (field_on d xs e, h, ne_eqb v 0 z, ne_eqb (v * 10 + (d - 48)) 0 w, or-true (none (field_of xs)), n)
 
--- at a place of a text, behind a 0 that leads
+-- at a place of a text, behind a 0 that leads, and where the number grows too large
 pub zero_leads : (text : List ℕ) (v i : ℕ) → i < length text → parting (get_or text i 0) ≡ false → v ≡ 0 → onward v i (drop i text) ≡ Not
 zero_leads text v i h e z = ap (onward v i) (here text i h) ∙ onward_zero v i (get_or text i 0) (drop (i + 1) text) e z
+
+pub grows_large : (text : List ℕ) (v i : ℕ) → i < length text → parting (get_or text i 0) ≡ false → 65535 < v * 10 + (get_or text i 0 - 48) → onward v i (drop i text) ≡ Not
+grows_large text v i h e g = ap (onward v i) (here text i h) ∙ onward_large v i (get_or text i 0) (drop (i + 1) text) e g
 
 -- WHAT THE ANSWER SAYS of the field
 by_is : (t : Bool) (v n w e : ℕ) → num_by t v n ≡ Is w e → (t ≡ true) × (w ≡ v) × (e ≡ n)

@@ -44,7 +44,7 @@ pub fn holds(text: &[u8], at: usize, b: u8) -> bool
 }
 
 // The field that begins at a position as a number.
-#[tactic(auto, using(crate::proofs::Digits::zero_leads))]
+#[tactic(auto, using(crate::proofs::Digits::zero_leads, crate::proofs::Digits::grows_large))]
 pub fn number(text: &[u8], at: usize) -> Num
     ensures { result ≡ number_in at (drop at text.now) }
 {

@@ -17,7 +17,6 @@ use Rattle.digits.proofs.Digits.{
   onward_none,
   onward_parted,
   onward_not,
-  onward_large,
   onward_more,
 }
 use Rattle.digits.proofs.number.Goals as goal
@@ -66,13 +65,9 @@ overflow_cast-v-in-loop-i c = omega (arith, digit_high _ (sym c.is_digit-in-loop
 pub overflow_add-v : goal.overflow_add-v
 overflow_add-v c = omega (arith, digit_high _ (sym c.is_digit-in-loop-i.ensures ∙ c.if-not-is_digit-2.false))
 
-pub returns-then-v-gt65535 : goal.returns-then-v-gt65535
-returns-then-v-gt65535 c =
-    sym (goes _ _ _ _ c.loop-i.invariant.1 c.loop-i-test.true ∙ onward_large _ _ _ _ (sym c.parts.ensures ∙ c.if-parts.false) c.if-v-gt65535.true)
-
 pub loop-i-preserved : goal.loop-i-preserved
 loop-i-preserved c = (
-  c.if-v-gt65535.false,
+  omega arith,
   goes _ _ _ _ c.loop-i.invariant.1 c.loop-i-test.true
       ∙ onward_more _ _ _ _ (sym c.parts.ensures ∙ c.if-parts.false) (sym c.is_digit-in-loop-i.ensures ∙ c.if-not-is_digit-2.false) (λ e. omega arith),
 )
