@@ -8,7 +8,7 @@ use mathlib.Core.Path.{◌≡◌, refl, sym, ap, ap₂, subst, ◌∙◌}
 use lib.Dec.{ltb}
 use lib.ListN.{length, drop, length-append}
 use borrow.Author.Tests.{ltb-true}
-use Rattle.lines.specs.Text.{at_claims, words, row_of, stands as allowedAt, lines_of}
+use Rattle.lines.specs.Text.{at_claims, words, row_of, stands as allowed_at, lines_of}
 use Rattle.lines.specs.Walk.{claims_from, sections_from, steps_from, read_at}
 use Rattle.lines.specs.declared.Line.{Line}
 use Rattle.lines.specs.declared.Next.{Next}
@@ -35,7 +35,7 @@ use Rattle.parts.proofs.Through.{through_next}
 use Rattle.claims.proofs.ClaimLaws.{claim_said, rows_claim}
 
 -- the words that stand in the claims' place: the claims, `proof` and `model`: a test of all words
-pub stands_among : (l : Line) → allowedAt at_claims l ≡ true → (claims_from ≤ l.word) × (l.word < steps_from)
+pub stands_among : (l : Line) → allowed_at at_claims l ≡ true → (claims_from ≤ l.word) × (l.word < steps_from)
 unfolding words row_of
 stands_among l a = spanned at_claims claims_from steps_from (omega arith) refl l.word a
 

@@ -14,6 +14,7 @@ use Rattle.alc.specs.Lists.{All}
 use Rattle.alc.proofs.Trees.{concepts}
 use Rattle.alc.specs.Meaning.{World, some_below, every_below}
 use Rattle.alc.specs.Table.{Kind, fields_by}
+use Rattle.alc.specs.Shown.{kind_at}
 use Rattle.alc.proofs.Logic.{not_or}
 use Rattle.sets.specs.Bit.{bit, common}
 use Rattle.extents.specs.Extent.{extent}
@@ -82,6 +83,18 @@ all_bits n edges r s t q a few is reach out d =
     ap (λ (b : Bool). not b) (some_bits n edges r s t (λ e. not (a e)) few is reach d)
     ∙ ap (λ (b : Bool). not (b && some_below n (λ e. edge_in edges r d e && not (a e)))) (lt-ltb d n l)
     ∙ not_some n (edge_in edges r d) a)
+
+-- the numbers from 1 to 7 are the kinds from `bot` to `all`
+pub other_kind : (k : ℕ) → ((((((Unit {0} × (k ≡ 1 → ⊥)) × (k ≡ 2 → ⊥)) × (k ≡ 3 → ⊥)) × (k ≡ 4 → ⊥)) × (k ≡ 5 → ⊥)) × (k ≡ 6 → ⊥)) × (k ≡ 7 → ⊥) → kind_at k ≡ Kind.top
+other_kind zero r = refl
+other_kind (suc zero) r = absurd (r.0.0.0.0.0.0.1 refl)
+other_kind (suc (suc zero)) r = absurd (r.0.0.0.0.0.1 refl)
+other_kind (suc (suc (suc zero))) r = absurd (r.0.0.0.0.1 refl)
+other_kind (suc (suc (suc (suc zero)))) r = absurd (r.0.0.0.1 refl)
+other_kind (suc (suc (suc (suc (suc zero))))) r = absurd (r.0.0.1 refl)
+other_kind (suc (suc (suc (suc (suc (suc zero)))))) r = absurd (r.0.1 refl)
+other_kind (suc (suc (suc (suc (suc (suc (suc zero))))))) r = absurd (r.1 refl)
+other_kind (suc (suc (suc (suc (suc (suc (suc (suc k)))))))) r = refl
 
 -- the same elements of the parts, the same elements
 pub extent_same : (W : World) (k : Kind) (x y : ℕ) (m n : ℕ → ℕ → Bool) → All (λ p. (d : ℕ) → d < W.size → m p d ≡ n p d) (concepts (fields_by k x y))

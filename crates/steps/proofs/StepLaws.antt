@@ -7,7 +7,7 @@ use mathlib.Core.List.{List, [], ◌∷◌, ◌++◌, map}
 use mathlib.Core.Path.{◌≡◌, refl, sym, ap, ap₂, ◌∙◌}
 use lib.Dec.{ltb}
 use lib.ListN.{length, drop, get_or-eq_default}
-use Rattle.lines.specs.Text.{at_steps, words, row_of, stands as allowedAt}
+use Rattle.lines.specs.Text.{at_steps, words, row_of, stands as allowed_at}
 use Rattle.lines.specs.Walk.{steps_from, size_from}
 use Rattle.lines.specs.declared.Line.{Line}
 use Rattle.lines.proofs.Told.{Told}
@@ -37,7 +37,7 @@ use Rattle.parts.proofs.TableLaws.{byte}
 use Rattle.steps.specs.Turning.{step_in, range_row, TurnAt}
 
 -- the words that stand in the steps' place: a test of all words
-pub step_word : (l : Line) → allowedAt at_steps l ≡ true → (steps_from ≤ l.word) × (l.word < size_from)
+pub step_word : (l : Line) → allowed_at at_steps l ≡ true → (steps_from ≤ l.word) × (l.word < size_from)
 unfolding words row_of
 step_word l a = spanned at_steps steps_from size_from (omega arith) refl l.word a
 

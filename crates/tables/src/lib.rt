@@ -3,7 +3,7 @@
 
 ghost use Rattle.std.specs.Prelude.{◌≡◌, ℕ, ◌<◌, ◌≤◌, ◌%◌, length, get_or, set, ◌&&◌, eqb};
 ghost use Rattle.alc.specs.Rows.{refusal};
-ghost use Rattle.alc.specs.Table.{entry_of, stands as standsIn};
+ghost use Rattle.alc.specs.Table.{entry_of, stands as stands_in};
 ghost use Rattle.lines.specs.Walk.{claims_from};
 ghost use Rattle.alc.specs.Shown.{kind_count, kind_at, table_of};
 ghost use Rattle.parts.specs.Parts.{entry_rows, TableRead};
@@ -26,7 +26,7 @@ fn made_entry(l: Line) -> Entry
 // Whether the entry stands among the first n lines of the table.
 fn repeated(kinds: &[u8; 256], firsts: &[u8; 256], seconds: &[u8; 256], n: usize, e: Entry) -> bool
     requires { (n ≤ 256) × (e.kind < kind_count) × ((i : ℕ) → i < n → get_or kinds.now i 0 < kind_count) }
-    ensures { result ≡ standsIn (table_of kinds.now firsts.now seconds.now n) (entry_of (kind_at e.kind) e.x e.y) }
+    ensures { result ≡ stands_in (table_of kinds.now firsts.now seconds.now n) (entry_of (kind_at e.kind) e.x e.y) }
 {
     // No early end: so the compiler compares sixteen lines at a time.
     let mut times: u16 = 0;

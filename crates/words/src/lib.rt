@@ -1,5 +1,5 @@
 // Which word a field is. The words are fixed byte strings, and a field is compared with one after the other, of those alone that may stand at the
-// place, and four at most in a function, so that the last line of its proof finds all of them by itself.
+// place, and four at most in a function, so that the last answer of its proof finds all of them by itself.
 #![tactic(auto)]
 
 ghost use Rattle.std.specs.Prelude.{◌≡◌, ◌-◌, length};
