@@ -1,8 +1,8 @@
--- `sets::meets` meets its contract: a number is not 0 just if it has a bit, and `&` works bit by bit. Assumes nothing.
+-- `sets::share` meets its contract: a number is not 0 just if it has a bit, and `&` works bit by bit. Assumes nothing.
 use native.Mathlib.Omega.{arith}
 use Rattle.sets.specs.Bit.{common}
 use Rattle.sets.proofs.BitLaws.{bit_meets}
-use Rattle.sets.proofs.meets.Goals as goal
+use Rattle.sets.proofs.share.Goals as goal
 
 pub returns : goal.returns
 unfolding common
