@@ -23,5 +23,6 @@ pub mod NotNew
 pub mod Known
 pub mod Theorems
 -- For the code: its records and arrays lose nothing; the last arm of a `match`.
+pub mod Stored
 pub mod ShownLaws
 pub mod Arms

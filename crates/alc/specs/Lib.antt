@@ -15,4 +15,5 @@ pub mod Reading
 pub mod Accepts
 pub mod Refusal
 pub mod Known
+pub mod Entries
 pub mod Shown

@@ -1,12 +1,14 @@
 -- How the code's records, arrays and answers show claims, goals, the table and verdicts.
 -- Assumes nothing.
-use Rattle.std.specs.Prelude.{ℕ, zero, suc, cond, List, [], ◌∷◌, ◌++◌, map, ◌≡◌, eqb, length, take, get_or}
+use Rattle.std.specs.Prelude.{ℕ, zero, suc, cond, List, [], ◌∷◌, ◌++◌, map, ◌≡◌, eqb, length, take, get_or, Result, Ok, Err}
 use Rattle.lines.specs.Text.{on_left, on_right}
 use Rattle.alc.specs.Table.{Kind, Table, entry_of}
 use Rattle.alc.specs.Claims.{Claim, is, sub, link, Sided, left, right}
 use Rattle.alc.specs.declared.Claim.{Claim as Record}
 use Rattle.alc.specs.Verdict.{Verdict, proved, refuted, refused}
 use Rattle.alc.specs.declared.Goal.{Goal as Records}
+use Rattle.alc.specs.declared.refusal.Refusal.{Refusal}
+use Rattle.alc.specs.declared.refusal.Refusal.TheVariants.{TooLong, Malformed, OutOfRange, Repeated, TooMany, OtherKind, Missing, NotNew, NoGoal, GoalFull, TooManyWait, Unfinished, NotFalsified, RoomTooSmall}
 use Rattle.alc.specs.declared.Answer.{Answer}
 use Rattle.alc.specs.declared.Answer.TheVariants.{Proved, Refuted, Refused}
 
@@ -75,8 +77,30 @@ unfoldable pub table_of : List ℕ → List ℕ → List ℕ → ℕ → Table
 table_of ks xs ys zero = []
 table_of ks xs ys (suc n) = table_of ks xs ys n ++ (entry_of (kind_at (get_or ks n 0)) (get_or xs n 0) (get_or ys n 0) ∷ [])
 
+-- the number of a refusal in the list
+abbrev pub number_of : Refusal → ℕ
+number_of TooLong = 1
+number_of Malformed = 2
+number_of OutOfRange = 3
+number_of Repeated = 4
+number_of TooMany = 5
+number_of OtherKind = 6
+number_of Missing = 7
+number_of NotNew = 8
+number_of NoGoal = 9
+number_of GoalFull = 10
+number_of TooManyWait = 11
+number_of Unfinished = 12
+number_of NotFalsified = 13
+number_of RoomTooSmall = 14
+
+-- the number of the first row that is not passed, and 0 where all are
+abbrev pub row_number : {A : Type 0} → Result A Refusal → ℕ
+row_number (Ok x) = 0
+row_number (Err k) = number_of k
+
 -- the verdict that an answer is
 abbrev pub answered : Answer → Verdict
 answered (Proved n) = proved n
 answered (Refuted n) = refuted n
-answered (Refused k n) = refused k n
+answered (Refused r) = refused (number_of r.refusal) r.line
