@@ -20,7 +20,8 @@ use Rattle.alc.specs.declared.Claim.{Claim as Record}
 use Rattle.alc.specs.declared.Goal.{Goal as Records}
 use Rattle.alc.specs.contracts.Goal.{the_type}
 use Rattle.alc.proofs.ListFacts.{every-All, All-at}
-use Rattle.models.specs.Shown.{Below, is_seated, Claimed, Seated, Fit}
+use Rattle.models.specs.Shown.{Below, is_seated, all_seated, Claimed, Fit}
+use Rattle.models.specs.declared.Model.{Model}
 
 -- what a function is told of a goal that it is passed
 pub goal-length : (g : Records) (vs : List Val) → Is (row the_type) g vs → length g.claims ≡ 64
@@ -52,14 +53,13 @@ module _ (g : Records) (few : g.count ≤ 64) (long : length g.claims ≡ 64) wh
       subst P (ap claim (at k l) ∙ claim_back (get_or g.claims k blank))
       (All-at (sided_of blank) (λ s. P (claim s)) (claims_in g) h k (omega (arith, count_is)))
 
-pub fit_at : (g : Records) (n : ℕ) (places : List ℕ) → length g.claims ≡ 64 → Claimed 256 g → Seated n places g → (k : ℕ) → k < g.count → Fit n places (claim_of (get_or g.claims k blank))
-fit_at g n places long c s k l = record {
+pub fit_at : (g : Records) (m : Model) → length g.claims ≡ 64 → Claimed 256 g → all_seated m (claims_in g) ≡ true → (k : ℕ) → k < g.count → Fit m (claim_of (get_or g.claims k blank))
+fit_at g m long c s k l = record {
   numbers = claim_at g c.few long (λ d. All (Below 256 0) (claim_fields d)) c.numbers k l;
   placed =
       let d = claim_of (get_or g.claims k blank) in
-      every-All (is_seated places) (names d)
-      (claim_at g c.few long (λ d. every (is_seated places) (names d) ≡ true) (every-All (λ t. every (is_seated places) (names (claim t))) (claims_in g) s.placed) k l);
-  inside = s.inside;
+      every-All (is_seated m) (names d)
+      (claim_at g c.few long (λ d. every (is_seated m) (names d) ≡ true) (every-All (λ t. every (is_seated m) (names (claim t))) (claims_in g) s) k l);
 }
 
 -- a search of the list: it goes on behind a claim that fails the test, and ends at one that passes, or where no claim is left
