@@ -1,7 +1,7 @@
 // The elements of each line of the concept table in a model, as sets, worked out from those of the lines above it.
 #![tactic(auto)]
 
-ghost use Rattle.std.specs.Prelude.{◌≡◌, ◌&&◌, ◌||◌, not, ℕ, ◌<◌, ltb, length, get_or};
+ghost use Rattle.std.specs.Prelude.{◌≡◌, ◌&&◌, ◌||◌, not, ℕ, ◌<◌, ◌≤◌, ltb, length, get_or};
 ghost use Rattle.alc.specs.Lists.{All};
 ghost use Rattle.alc.specs.Meaning.{some_below, every_below};
 ghost use Rattle.alc.specs.Table.{entry_fields};
@@ -63,9 +63,10 @@ fn extent(entry: Entry, model: &Model, ext: &[Set; 256]) -> Set
     }
 }
 
-// The elements of every line of the table: a line's set is worked out from those above it.
+// The elements of every line of the table, of which there are at most 256: a line's set is worked out from those above it.
 pub fn extensions(table: &Table, model: &Model) -> [Set; 256]
-    ensures { Extended result (length table.now) table.now (world_of model.now) }
+    ensures few { length table.now ≤ 256 }
+    ensures sets { Extended result (length table.now) table.now (world_of model.now) }
 {
     let mut ext = [Set::EMPTY; 256];
     for i in 0..table.len() {
