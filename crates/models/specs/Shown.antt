@@ -1,11 +1,11 @@
 -- What a model of the code shows: a world, where the names are, an interpretation. What a line of the model makes of them. The ranges that the
 -- numbers are asked to be in.
 -- Assumes nothing.
-use Rattle.std.specs.Prelude.{ℕ, ◌≤◌, ◌<◌, Bool, true, not, cond, ◌&&◌, ◌||◌, List, [], ◌∷◌, ◌≡◌, eqb, get_or}
+use Rattle.std.specs.Prelude.{ℕ, ◌≤◌, ◌<◌, Bool, not, cond, ◌&&◌, ◌||◌, List, [], ◌∷◌, ◌≡◌, eqb, get_or}
 use Rattle.alc.specs.Lists.{All, every, is_empty}
 use Rattle.alc.specs.Ranges.{Field, role, atom, name, element, size, concept}
 use Rattle.alc.specs.Meaning.{World, Interp}
-use Rattle.alc.specs.Claims.{Claim, Sided, claim, claim_fields, names}
+use Rattle.alc.specs.Claims.{Sided, claim, claim_fields, names}
 use Rattle.alc.specs.Shown.{claims_in}
 use Rattle.alc.specs.declared.Goal.{Goal as Records}
 use Rattle.models.specs.Arrays.{atom_in, edge_in, seats_of}
@@ -15,7 +15,7 @@ use Rattle.models.specs.declared.Model.{Model}
 abbrev pub world_of : Model → World
 world_of m = record { size = m.size.count; atoms = atom_in m.atoms; roles = edge_in m.edges }
 
--- the element of a placed name
+-- the element at which name a is placed; 0 where it is not
 abbrev pub seat_of : Model → ℕ → ℕ
 seat_of m a = get_or (seats_of m.places a) 0 0
 
@@ -70,13 +70,3 @@ Below n k (concept i) = i < n
 pub record Claimed (n : ℕ) (g : Records) : Type 0 where
   pub few : g.count ≤ 64
   pub numbers : All (λ s. All (Below n 0) (claim_fields (claim s))) (claims_in g)
-
--- what a model and claims are asked to be: their numbers are in range of a table of n lines, and every name in them is placed
-pub record Ready (n : ℕ) (m : Model) (g : Records) : Type 0 where
-  pub claims : Claimed n g
-  pub placed : all_seated m (claims_in g) ≡ true
-
--- one claim's numbers are in range, and its names are placed
-pub record Fit (m : Model) (c : Claim) : Type 0 where
-  pub numbers : All (Below 256 0) (claim_fields c)
-  pub placed : All (λ a. is_seated m a ≡ true) (names c)
