@@ -1,8 +1,8 @@
 -- What the loops over the parts of a dossier hold and come to, said by the definitions of `alc`.
 -- Assumes nothing.
-use Rattle.std.specs.Prelude.{ℕ, suc, ◌+◌, ◌-◌, ◌≤◌, ◌<◌, ◌%◌, true, not, List, [], ◌∷◌, map, ◌≡◌, ltb, length, get_or, Result, Ok, Err}
+use Rattle.std.specs.Prelude.{ℕ, suc, ◌+◌, ◌-◌, ◌≤◌, ◌<◌, ◌%◌, true, not, cond, List, [], ◌∷◌, map, ◌≡◌, eqb, ltb, length, get_or, Result, Ok, Err}
 use Rattle.lines.specs.Text.{at_table, at_claims}
-use Rattle.lines.specs.Walk.{claims_from, read_at}
+use Rattle.lines.specs.Walk.{claims_from, sections_from, read_at}
 use Rattle.lines.specs.declared.Line.{Line}
 use Rattle.lines.specs.declared.Next.{Next}
 use Rattle.lines.specs.declared.Next.TheVariants.{Found, Bad, End}
@@ -100,6 +100,10 @@ pub data ClaimsEnd (T : Table) (cs : List Sided) : Next → ℕ → Type 0 where
   wrong : ClaimsEnd T cs Bad 2
   failed : {l : Line} {next k : ℕ} → refusal (rows (in_claims T cs) (saying l)) ≡ suc k → ClaimsEnd T cs (Found l next) (suc k)
   over : ClaimsEnd T cs End 12
+
+-- what the word of a number ends the claims with: `proof`, or else `model`
+abbrev pub section_at : ℕ → Section
+section_at w = cond (eqb w sections_from) Proof Model
 
 -- the claims cs from a position on, behind a table T, lead to `proof` or to `model`; or the line behind them is refused, by number
 pub data ClaimsLead (text : List ℕ) (T : Table) (begun : ℕ) (cs : List Sided) (lines at : ℕ) : Result Section ℕ → Type 0 where
