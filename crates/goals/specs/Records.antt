@@ -1,6 +1,6 @@
 -- Lists of claim records: when two are the same, which names one has, and how a rule's plan is shown by records.
 -- Assumes nothing.
-use Rattle.std.specs.Prelude.{ℕ, ◌+◌, ◌-◌, ◌<◌, Bool, true, false, not, cond, ◌&&◌, ◌||◌, List, [], ◌∷◌, ◌++◌, map, ◌≡◌, eqb, leb, length, get_or, take, drop, Option, Some, None, IfSome, Result, Ok, Err, IfOk}
+use Rattle.std.specs.Prelude.{ℕ, ◌+◌, ◌-◌, ◌<◌, Bool, true, false, not, cond, ◌&&◌, ◌||◌, List, [], ◌∷◌, ◌++◌, map, ◌≡◌, eqb, leb, length, get_or, take, drop, position, Option, Some, None, IfSome, Result, Ok, Err, IfOk}
 use Rattle.std.proofs.Math.Bool.{decide}
 use Rattle.lines.specs.Walk.{steps_from}
 use Rattle.std.specs.List.{list_any}
@@ -60,6 +60,11 @@ needed_by Nothing = []
 needed_by (One c) = c ∷ []
 needed_by (Both c d) = c ∷ d ∷ []
 
+-- the place where the first claim needed is first found, if it is
+abbrev pub found_in : List Record → List Record → Option ℕ
+found_in [] l = None
+found_in (c ∷ needs) l = position (same_record c) l
+
 -- the new name, where one is asked
 abbrev pub news_by : Option Name → List ℕ
 news_by None = []
@@ -90,10 +95,6 @@ ruling q =
 abbrev pub ruling_by : Kind → Planned → Ruling
 ruling_by k p =
     record { asked = asks p.kind k; needed = needed_by p.needs; drops = p.drops; news = news_by p.fresh; comes = added p.leaves }
-
--- the code's plan p, at an entry of kind k, is the plan q
-pub record Plans (k : Kind) (p : Planned) (q : Plan) : Type 0 where
-  pub is : ruling_by k p ≡ ruling q
 
 -- the names are new: in none of the records, and none of them twice
 abbrev pub new_in : List ℕ → List Record → Bool
