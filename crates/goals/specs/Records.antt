@@ -91,10 +91,6 @@ abbrev pub ruling_by : Kind → Planned → Ruling
 ruling_by k p =
     record { asked = asks p.kind k; needed = needed_by p.needs; drops = p.drops; news = news_by p.fresh; comes = added p.leaves }
 
--- the code's plan p, at an entry of kind k, is the plan q
-pub record Plans (k : Kind) (p : Planned) (q : Plan) : Type 0 where
-  pub is : ruling_by k p ≡ ruling q
-
 -- the names are new: in none of the records, and none of them twice
 abbrev pub new_in : List ℕ → List Record → Bool
 new_in news l = distinct news && every (λ a. not (list_any (has_name a) l)) news

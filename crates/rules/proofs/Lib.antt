@@ -1,2 +1,0 @@
--- The code's plan is the table's row.
-pub mod Plans
