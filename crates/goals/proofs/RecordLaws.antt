@@ -13,7 +13,13 @@ use Rattle.alc.specs.declared.refusal.Refusal.{Refusal}
 use Rattle.alc.specs.declared.refusal.Refusal.TheVariants.{TooLong, Malformed, OutOfRange, Repeated, TooMany, OtherKind, Missing, NotNew, NoGoal, GoalFull, TooManyWait, Unfinished, NotFalsified, RoomTooSmall}
 use Rattle.std.specs.Result.{IsOk}
 use Rattle.std.proofs.Common.{Result, Ok, Err}
-use Rattle.goals.specs.Records.{same_record, lacking, added, cut_at, row_number}
+use Rattle.goals.specs.Records.{same_record, lacking, keeping, asks, found_in, added, cut_at, row_number}
+use denote.Enum.Bare.{sameb}
+use mathlib.Core.Bool.{and-true, or-false}
+use Rattle.alc.specs.Entries.{kind_of}
+use Rattle.alc.specs.contracts.table.Kind.{the_type}
+use Rattle.alc.specs.declared.table.Kind.{Kind as Stored}
+use Rattle.alc.proofs.Stored.{shown_any}
 
 module _ (c d : Record) where
   pub same_eq : same_record c d ≡ true → c ≡ d
@@ -44,6 +50,16 @@ cut_lacking c (d ∷ l) = go (same_record c d) (cut_lacking c l)
         → cut_at (cond (ltb (cond (not b) (1 + position_or_len (same_record c) l) 0) (suc (length l))) (Some (cond (not b) (1 + position_or_len (same_record c) l) 0)) None) (d ∷ l) ≡ cond b l (d ∷ lacking c l)
     go true e = rw (lt-ltb 0 (suc (length l)) (omega arith))
     go false e = grind (arith, common_steps)
+
+-- the claim that goes is the first one needed, where the rule drops it
+pub cut_leaving : (b : Bool) (ns : List Record) (l : List Record) → cut_at (cond b (found_in ns l) None) l ≡ keeping b ns l
+cut_leaving false ns l = refl
+cut_leaving true [] l = refl
+cut_leaving true (c ∷ ns) l = cut_lacking c l
+
+-- a kind asked is the entry's exactly if it is the same: a table of one line has a line exactly if they are the same, also where only the kind is said
+pub kind_asked : (k j : Stored) → sameb the_type j k ≡ asks (Some j) (kind_of k)
+kind_asked k j = simp (and-true, or-false) at (shown_any (record { kind = k; x = 0; y = 0 }) (record { kind = j; x = 0; y = 0 } ∷ []))
 
 -- at most two premises are left
 pub few_open : (o : Outcome) → length (added o) ≤ 2

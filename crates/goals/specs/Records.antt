@@ -1,6 +1,6 @@
 -- Lists of claim records: when two are the same, which names one has, and how a rule's plan is shown by records.
 -- Assumes nothing.
-use Rattle.std.specs.Prelude.{ℕ, ◌+◌, ◌-◌, ◌<◌, Bool, true, false, not, cond, ◌&&◌, ◌||◌, List, [], ◌∷◌, ◌++◌, map, ◌≡◌, eqb, leb, length, get_or, take, drop, Option, Some, None, IfSome, Result, Ok, Err, IfOk}
+use Rattle.std.specs.Prelude.{ℕ, ◌+◌, ◌-◌, ◌<◌, Bool, true, false, not, cond, ◌&&◌, ◌||◌, List, [], ◌∷◌, ◌++◌, map, ◌≡◌, eqb, leb, length, get_or, take, drop, position, Option, Some, None, IfSome, Result, Ok, Err, IfOk}
 use Rattle.std.proofs.Math.Bool.{decide}
 use Rattle.lines.specs.Walk.{steps_from}
 use Rattle.std.specs.List.{list_any}
@@ -59,6 +59,11 @@ abbrev pub needed_by : Needs → List Record
 needed_by Nothing = []
 needed_by (One c) = c ∷ []
 needed_by (Both c d) = c ∷ d ∷ []
+
+-- the place where the first claim needed is first found, if it is
+abbrev pub found_in : List Record → List Record → Option ℕ
+found_in [] l = None
+found_in (c ∷ needs) l = position (same_record c) l
 
 -- the new name, where one is asked
 abbrev pub news_by : Option Name → List ℕ

@@ -1,200 +1,207 @@
 // One step at a goal: the first of its rows that it does not pass, or the premises that it leaves.
 #![tactic(auto)]
 
-ghost use Rattle.std.specs.Prelude.{◌≡◌, List, [], ◌++◌, ◌+◌, ◌-◌, ◌<◌, ◌≤◌, length, get_or, leb};
-ghost use Rattle.alc.specs.Rows.{refusal};
-ghost use Rattle.alc.specs.Lists.{any, every, first_at};
+ghost use Rattle.std.specs.Prelude.{◌≡◌, IfOk, IfSome, List, [], ◌++◌, ◌+◌, ◌<◌, ◌≤◌, cond, length, get_or, leb};
+ghost use Rattle.std.specs.List.{list_any};
 ghost use Rattle.lines.specs.Walk.{steps_from, size_from};
-ghost use Rattle.alc.specs.Shown.{records, kind_count, kind_at};
+ghost use Rattle.alc.specs.Rows.{refusal};
+ghost use Rattle.alc.specs.Lists.{every};
+ghost use Rattle.alc.specs.Shown.{records};
+ghost use Rattle.alc.specs.Entries.{kind_of, shown};
 ghost use Rattle.alc.specs.declared.Claim.{Claim as Record};
-ghost use Rattle.alc.specs.Table.{Table, entry, entry_of};
+ghost use Rattle.alc.specs.Table.{Table, entry};
 ghost use Rattle.alc.specs.Rules.{plan};
-ghost use Rattle.goals.specs.Records.{same_record, keeping, step_of, asks, up_to, news_by, added, ruling, ruling_by, new_in, kept_by, record_rows, cut_at, premise_at, Makes, Turns};
+ghost use Rattle.goals.specs.Records.{same_record, step_of, asks, needed_by, found_in, news_by, added, ruling, ruling_by, new_in, kept_by, record_rows, row_number, cut_at, premise_at, Makes, Turns};
 
-use alc::Goal;
-use goals::{ANY, CLOSES, Entry, PARTS, Plan, Step, TWO, Turn};
+use alc::{Claim, Entry, Goal, Kind, Name, Refusal};
+use goals::{Needs, Outcome, Plan, Step, Turn};
 
-// Whether the entry is of the kind that the plan asks.
-fn asked(p: Plan, kind: u8) -> bool
-    requires { kind < kind_count }
-    ensures { result ≡ asks p.kind (kind_at kind) }
+// Whether the entry is of the kind that is asked, if one is.
+#[tactic(auto, using(goals::proofs::RecordLaws::kind_asked))]
+fn asked(wanted: Option<Kind>, kind: Kind) -> bool
+    ensures { result ≡ asks wanted (kind_of kind) }
 {
-    if p.kind == ANY {
-        return true;
+    match wanted {
+        None => true,
+        Some(k) => k == kind,
     }
-    p.kind == kind
 }
 
-// Whether the goal has all that the plan needs, where its first claim needed is first found at a place.
-fn needed(g: Goal, p: Plan, at: usize) -> bool
-    requires { (g.count ≤ 64) × (at ≡ first_at (same_record p.need) (records g)) }
-    ensures { result ≡ every (λ c. any (same_record c) (records g)) (up_to p.needs p.need p.also) }
+// The place where the first claim needed is first found, if it is.
+fn found(claims: &[Claim], needs: Needs) -> Option<usize>
+    ensures { result ≡ found_in (needed_by needs) claims.now }
 {
-    if p.needs == 0 {
-        return true;
+    match needs {
+        Needs::Nothing => None,
+        Needs::One(c) | Needs::Both(c, _) => goals::find(claims, c),
     }
-    if at >= g.count {
-        return false;
-    }
-    if p.needs == 1 {
-        return true;
-    }
-    goals::has(g, p.also)
 }
 
-// Whether the name that must be new stands nowhere in the goal.
-fn is_new(g: Goal, p: Plan) -> bool
-    requires { g.count ≤ 64 }
-    ensures { result ≡ new_in (news_by p.fresh p.name.0) (records g) }
+// Whether all claims needed are there, where the first of them is first found at a place, if it is.
+#[tactic(auto, using(goals::proofs::RecordLaws::any_first))]
+fn needed(claims: &[Claim], needs: Needs, at: Option<usize>) -> bool
+    requires { at ≡ found_in (needed_by needs) claims.now }
+    ensures { result ≡ every (λ c. list_any (same_record c) claims.now) (needed_by needs) }
 {
-    let fresh = p.fresh;
-    if fresh {
-        return !goals::occurs(g, p.name);
+    match needs {
+        Needs::Nothing => true,
+        Needs::One(_) => at.is_some(),
+        Needs::Both(_, d) => at.is_some() && goals::has(claims, d),
     }
-    true
 }
 
-// The place of the claim that goes, of n, or n where none does; the first claim needed is first found at `at`.
-fn leaving(n: usize, p: Plan, at: usize) -> usize
-    requires { at ≤ n }
-    ensures { ((l : List Record) → length l ≡ n → at ≡ first_at (same_record p.need) l → cut_at result l ≡ keeping p.drops (up_to p.needs p.need p.also) l) × (result ≤ n) }
+// Whether the name that must be new, if one must, stands nowhere among the claims.
+fn is_new(claims: &[Claim], fresh: Option<Name>) -> bool
+    ensures { result ≡ new_in (news_by fresh) claims.now }
 {
-    let drops = p.drops;
-    if p.needs == 0 {
-        return n;
+    match fresh {
+        None => true,
+        Some(b) => !goals::occurs(claims, b),
     }
-    if drops {
-        return at;
-    }
-    n
 }
 
-// How many of n claims stay, where the one at a place goes.
-fn staying(n: usize, at: usize) -> usize
-    ensures { at ≤ n → result ≡ at + (n - (at + 1)) }
+// The place of the claim that goes, if one does, where the first claim needed is found at a place, if it is.
+fn leaving(drops: bool, at: Option<usize>) -> Option<usize>
+    ensures { result ≡ cond drops at None }
 {
-    if at < n {
-        return n - 1;
-    }
-    n
+    if drops { at } else { None }
 }
 
-// Whether no premise has over 64 claims, when it adds to n claims.
-fn fits(n: usize, p: Plan) -> bool
-    ensures { (k : List Record) → length k ≡ n → result ≡ every (λ l. leb (length (k ++ l)) 64) (added p.leaves p.first p.second) }
+// How many claims stay, where the one at a place goes, if one does.
+fn staying(claims: &[Claim], goes: Option<usize>) -> usize
+    requires { IfSome goes (λ at. at < length claims.now) }
+    ensures { result ≡ length (cut_at goes claims.now) }
 {
-    if p.leaves == CLOSES {
-        return true;
+    match goes {
+        None => claims.len(),
+        Some(_) => claims.len() - 1,
     }
-    if p.leaves == TWO {
-        return n < 63;
-    }
-    n < 64
 }
 
-// How many premises the plan leaves.
-fn open(p: Plan) -> usize
-    ensures { result ≡ length (added p.leaves p.first p.second) }
+// Whether no premise has over 64 claims, when what comes is added to n claims.
+fn fits(n: usize, leaves: Outcome) -> bool
+    ensures { (k : List Record) → length k ≡ n → result ≡ every (λ l. leb (length (k ++ l)) 64) (added leaves) }
 {
-    if p.leaves == CLOSES {
-        return 0;
+    match leaves {
+        Outcome::Closes => true,
+        Outcome::AddsBoth(_, _) => n < 63,
+        _ => n < 64,
     }
-    if p.leaves < PARTS {
-        return 1;
-    }
-    2
 }
 
-// The number of the first row that the step does not pass at the goal g, of which it keeps n claims, with so many goals waiting; 0 if it passes
-// all.
-fn refused(g: Goal, p: Plan, at: usize, n: usize, kind: u8, waiting: usize) -> u8
-    requires { (g.count ≤ 64) × (at ≡ first_at (same_record p.need) (records g)) × (kind < kind_count) × (waiting ≤ 16) }
-    ensures { length (kept_by (ruling_by (kind_at kind) p) (records g)) ≡ n → result ≡ refusal (record_rows (ruling_by (kind_at kind) p) (records g) waiting) }
+// The first row that the step does not pass, if there is one, at claims of which it keeps n, with so many goals waiting.
+#[tactic(auto, unfolding(goals::specs::Records::record_rows))]
+fn refused(
+    claims: &[Claim],
+    p: Plan,
+    kind: Kind,
+    at: Option<usize>,
+    n: usize,
+    waiting: usize,
+) -> Result<(), Refusal>
+    requires first { at ≡ found_in (needed_by p.needs) claims.now }
+    requires stay { n ≡ length (kept_by (ruling_by (kind_of kind) p) claims.now) }
+    requires room { waiting ≤ 16 }
+    ensures { row_number result ≡ refusal (record_rows (ruling_by (kind_of kind) p) claims.now waiting) }
 {
-    if !asked(p, kind) {
-        return 6;
+    if !asked(p.kind, kind) {
+        return Err(Refusal::OtherKind);
     }
-    if !needed(g, p, at) {
-        return 7;
+    if !needed(claims, p.needs, at) {
+        return Err(Refusal::Missing);
     }
-    if !is_new(g, p) {
-        return 8;
+    if !is_new(claims, p.fresh) {
+        return Err(Refusal::NotNew);
     }
-    if !fits(n, p) {
-        return 10;
+    if !fits(n, p.leaves) {
+        return Err(Refusal::GoalFull);
     }
-    if open(p) + waiting > 17 {
-        return 11;
+    if p.leaves.premises() + waiting > 17 {
+        return Err(Refusal::TooManyWait);
     }
-    0
+    Ok(())
+}
+
+// What a plan does at the goal g, at an entry of a kind, with so many goals waiting.
+#[tactic(auto, using(goals::proofs::RecordLaws::cut_leaving))]
+fn turned(g: &Goal, p: Plan, kind: Kind, waiting: usize) -> Result<Turn, Refusal>
+    requires few { g.now.count ≤ 64 }
+    requires room { waiting ≤ 16 }
+    ensures turns { Turns [] (ruling_by (kind_of kind) p) (records g.now) waiting result }
+    ensures makes { IfOk result (λ t. Makes t g.now × (length (added t.leaves) + waiting ≤ 17)) }
+{
+    let claims = &g.claims[..g.count];
+    let at = found(claims, p.needs);
+    let goes = leaving(p.drops, at);
+    let kept = staying(claims, goes);
+    refused(claims, p, kind, at, kept, waiting)?;
+    Ok(Turn {
+        goes: goes,
+        kept: kept,
+        leaves: p.leaves,
+    })
 }
 
 // One step at the goal g, at the entry of its second field, with so many goals waiting.
-pub fn turn_of(g: Goal, s: Step, e: Entry, waiting: usize) -> Turn
-    requires { (g.count ≤ 64) × (steps_from ≤ s.word) × (s.word < size_from) × (e.kind < kind_count) × (waiting ≤ 16) }
-    ensures { ((T : Table) → entry T s.y ≡ entry_of (kind_at e.kind) e.x e.y → Turns [] (ruling (plan T (step_of s.word s.x s.y s.z))) (records g) waiting result) × (result.number ≡ 0 → Makes result g × (result.opens + waiting ≤ 17)) × (result.opens ≤ 2) }
+pub fn turn_of(g: &Goal, s: Step, e: Entry, waiting: usize) -> Result<Turn, Refusal>
+    requires few { g.now.count ≤ 64 }
+    requires step { (steps_from ≤ s.word) × (s.word < size_from) }
+    requires room { waiting ≤ 16 }
+    ensures turns { (T : Table) → entry T s.y ≡ shown e → Turns [] (ruling (plan T (step_of s.word s.x s.y s.z))) (records g.now) waiting result }
+    ensures makes { IfOk result (λ t. Makes t g.now × (length (added t.leaves) + waiting ≤ 17)) }
 {
-    let p = rules::plan_of(s, e);
-    let found = goals::find(g, p.need);
-    let n = g.count;
-    let at = leaving(n, p, found);
-    let kept = staying(n, at);
-    let first = p.first;
-    let second = p.second;
-    Turn {
-        number: refused(g, p, found, kept, e.kind, waiting),
-        opens: open(p),
-        at: at,
-        kept: kept,
-        leaves: p.leaves,
-        first: first,
-        second: second,
-    }
+    turned(g, rules::plan_of(s, e), e.kind, waiting)
 }
 
-// The first premise that the turn makes of the goal g: the claims behind the one that goes move up, and what comes is written behind the last.
-pub fn premise(g: Goal, t: Turn) -> Goal
-    requires { (g.count ≤ 64) × Makes t g }
-    ensures { (records result ≡ premise_at 0 t (records g)) × (result.count ≤ 64) × (result.count ≡ t.kept + length (get_or (added t.leaves t.first t.second) 0 [])) }
+// The goal without the claim at a place, if one goes, so that so many stay: those behind it move up.
+#[tactic(auto, using(crate::proofs::Cuts::cut_within, crate::proofs::Cuts::cut_count, crate::proofs::Cuts::cut_none))]
+fn cut(g: &Goal, goes: Option<usize>, kept: usize) -> Goal
+    requires few { g.now.count ≤ 64 }
+    requires place { IfSome goes (λ at. at < g.now.count) }
+    requires stay { kept ≡ length (cut_at goes (records g.now)) }
+    ensures shows { records result ≡ cut_at goes (records g.now) }
+    ensures count { result.count ≡ kept }
 {
-    let n = t.kept;
-    let mut claims = g.claims;
-    let mut i = t.at;
-    while i < n {
-        let c = claims[i + 1];
-        claims[i] = c;
-        i += 1;
+    let mut out = *g;
+    out.count = kept;
+    if let Some(at) = goes {
+        out.claims.copy_within(at + 1..g.count, at);
     }
-    if t.leaves == CLOSES {
-        return Goal {
-            claims: claims,
-            count: n,
-        };
+    out
+}
+
+// The first premise that the turn makes of the goal g: what comes is written behind what stays.
+pub fn premise(g: &Goal, t: Turn) -> Goal
+    requires few { g.now.count ≤ 64 }
+    requires makes { Makes t g.now }
+    ensures shows { records result ≡ premise_at 0 t (records g.now) }
+    ensures few { result.count ≤ 64 }
+    ensures count { result.count ≡ t.kept + length (get_or (added t.leaves) 0 []) }
+{
+    let mut out = cut(g, t.goes, t.kept);
+    match t.leaves {
+        Outcome::Closes => {}
+        Outcome::Adds(c) | Outcome::Parts(c, _) => goals::push(&mut out, c),
+        Outcome::AddsBoth(c, d) => {
+            goals::push(&mut out, c);
+            goals::push(&mut out, d);
+        }
     }
-    let first = t.first;
-    claims[n] = first;
-    if t.leaves == TWO {
-        let second = t.second;
-        claims[n + 1] = second;
-        return Goal {
-            claims: claims,
-            count: n + 2,
-        };
-    }
-    Goal {
-        claims: claims,
-        count: n + 1,
-    }
+    out
 }
 
 // The second of two premises, from the first: they differ in the last claim alone.
+#[tactic(auto, using(crate::proofs::Cuts::last_other))]
 pub fn other(g: Goal, t: Turn) -> Goal
-    requires { (0 < g.count) × (g.count ≤ 64) }
-    ensures { ((l : List Record) → records g ≡ premise_at 0 t l → 3 ≤ t.leaves → records result ≡ premise_at 1 t l) × (result.count ≡ g.count) × (result.count ≤ length result.claims) }
+    requires some { 0 < g.count }
+    requires few { g.count ≤ 64 }
+    ensures shows { (l : List Record) → records g ≡ premise_at 0 t l → length (added t.leaves) ≡ 2 → records result ≡ premise_at 1 t l }
+    ensures count { result.count ≡ g.count }
+    ensures full { result.count ≤ length result.claims }
 {
-    let last = g.count - 1;
     let mut out = g;
-    let second = t.second;
-    out.claims[last] = second;
+    if let Outcome::Parts(_, second) = t.leaves {
+        out.claims[g.count - 1] = second;
+    }
     out
 }

@@ -1,0 +1,2 @@
+-- A goal without one of its claims.
+pub mod Cuts
