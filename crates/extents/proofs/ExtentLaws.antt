@@ -1,24 +1,20 @@
 -- The sets of the code against `some_below` and `every_below`: two sets meet just if some element is in both, and every element is in a set
 -- just if none is outside it. What a line has depends on what its parts have alone.
 -- Assumes nothing.
-use Prim.Native.Nat.{ℕ, zero, suc, ◌+◌, ◌*◌, ◌≤◌, ◌<◌}
+use Prim.Native.Nat.{ℕ, zero, suc, ◌≤◌, ◌<◌}
 use native.Mathlib.Omega.{arith}
 use native.Mathlib.Decide.{ℕ_discrete}
 use mathlib.Core.Bool.{Bool, true, false, not, ◌&&◌, ◌||◌, and-false}
-use mathlib.Core.List.{List}
-use mathlib.Core.Path.{◌≡◌, refl, sym, ap, ap₂, ◌∙◌}
+use mathlib.Core.Path.{◌≡◌, refl, ap, ap₂, ◌∙◌, fun_ext}
 use lib.Dec.{ltb}
-use lib.ListN.{get_or}
 use borrow.Author.Tests.{lt-ltb, le-ltb, ltb-true}
 use Rattle.alc.specs.Lists.{All}
 use Rattle.alc.proofs.Trees.{concepts}
 use Rattle.alc.specs.Meaning.{World, some_below, every_below}
 use Rattle.alc.specs.Table.{Kind, fields_by}
-use Rattle.alc.specs.Shown.{kind_at}
 use Rattle.alc.proofs.Logic.{not_or}
 use Rattle.sets.specs.Bit.{bit, common}
-use Rattle.extents.specs.Extent.{extent}
-use Rattle.models.specs.Shown.{edge_in}
+use Rattle.extents.specs.Extent.{extent, reaches}
 
 some_same : (n : ℕ) (f g : ℕ → Bool) → ((e : ℕ) → e < n → f e ≡ g e) → some_below n f ≡ some_below n g
 some_same zero f g h = refl
@@ -47,12 +43,11 @@ pub not_some : (n : ℕ) (a p : ℕ → Bool) → not (some_below n (λ e. a e &
 not_some zero a p = refl
 not_some (suc n) a p = not_or (a n && not (p n)) (some_below n (λ e. a e && not (p e))) ∙ ap₂ (λ (x y : Bool). x && y) (deny (a n) (p n)) (not_some n a p)
 
--- a set against one of elements below n
-pub common_some : (n x y : ℕ) (p : ℕ → Bool) → n ≤ 32 → ((e : ℕ) → bit y e ≡ (ltb e n && p e)) → common x y ≡ some_below n (λ e. bit x e && p e)
-unfolding common
-common_some n x y p h is =
-    some_less (λ e. bit x e && bit y e) 32 n h (λ e l. rw (is e, le-ltb e n l) (and-false (bit x e)))
-    ∙ some_same n (λ e. bit x e && bit y e) (λ e. bit x e && p e) (λ e l. rw (is e, lt-ltb e n l) refl)
+-- a set, whose elements are those that q has, against one of elements below n
+pub common_some : (n y : ℕ) (q p : ℕ → Bool) → n ≤ 32 → ((e : ℕ) → bit y e ≡ (ltb e n && p e)) → some_below 32 (λ e. q e && bit y e) ≡ some_below n (λ e. q e && p e)
+common_some n y q p h is =
+    some_less (λ e. q e && bit y e) 32 n h (λ e l. rw (is e, le-ltb e n l) (and-false (q e)))
+    ∙ some_same n (λ e. q e && bit y e) (λ e. q e && p e) (λ e l. rw (is e, lt-ltb e n l) refl)
 
 -- what is the same below n is the same when it is clipped to n
 pub clip : (d n : ℕ) (a b : Bool) → (d < n → a ≡ b) → (ltb d n && a) ≡ (ltb d n && b)
@@ -62,39 +57,28 @@ clip d n a b h = go (ltb d n) refl
     go true e = h (ltb-true d n e)
     go false e = refl
 
--- t has the elements with an edge into the set s, which has the elements below n that p has
-module _ (n : ℕ) (edges : List ℕ) (r s t : ℕ) (p : ℕ → Bool) (few : n ≤ 32) (is : (e : ℕ) → bit s e ≡ (ltb e n && p e))
-    (reach : (d : ℕ) → bit t d ≡ (ltb d n && common (get_or edges (r * 32 + d) 0) s)) where
-  pub some_bits : (d : ℕ) → bit t d ≡ (ltb d n && some_below n (λ e. edge_in edges r d e && p e))
-  unfolding edge_in
-  some_bits d =
-      reach d
-      ∙ clip d n (common (get_or edges (r * 32 + d) 0) s) (some_below n (λ e. edge_in edges r d e && p e)) (λ l.
-      common_some n (get_or edges (r * 32 + d) 0) s p few is
-      ∙ ap (λ (b : Bool). some_below n (λ e. (b && bit (get_or edges (r * 32 + d) 0) e) && p e)) (sym (lt-ltb d 32 (omega arith))))
+-- the successors meet a set just if an edge leads into it
+pub meets_reaches : (W : World) (r s d to : ℕ) → ((e : ℕ) → bit to e ≡ W.roles r d e) → common to s ≡ reaches W r s d
+unfolding common reaches
+meets_reaches W r s d to is = ap (some_below 32) (fun_ext (λ e. ap (λ (b : Bool). b && bit s e) (is e)))
+
+-- t has the elements with an edge into the set s, which has the elements below the size that p has
+module _ (W : World) (r s t : ℕ) (p : ℕ → Bool) (few : W.size ≤ 32) (is : (e : ℕ) → bit s e ≡ (ltb e W.size && p e))
+    (reach : (d : ℕ) → bit t d ≡ (ltb d W.size && reaches W r s d)) where
+  pub some_bits : (d : ℕ) → bit t d ≡ (ltb d W.size && some_below W.size (λ e. W.roles r d e && p e))
+  unfolding reaches
+  some_bits d = reach d ∙ ap (λ (b : Bool). ltb d W.size && b) (common_some W.size s (W.roles r d) p few is)
 
 -- the same into the complement of a; q has the elements that are not in t
-pub all_bits : (n : ℕ) (edges : List ℕ) (r s t q : ℕ) (a : ℕ → Bool) → n ≤ 32 → ((e : ℕ) → bit s e ≡ (ltb e n && not (a e)))
-    → ((d : ℕ) → bit t d ≡ (ltb d n && common (get_or edges (r * 32 + d) 0) s)) → ((d : ℕ) → bit q d ≡ (ltb d n && not (bit t d)))
-    → (d : ℕ) → bit q d ≡ (ltb d n && every_below n (λ e. not (edge_in edges r d e) || a e))
-all_bits n edges r s t q a few is reach out d =
+pub all_bits : (W : World) (r s t q : ℕ) (a : ℕ → Bool) → W.size ≤ 32 → ((e : ℕ) → bit s e ≡ (ltb e W.size && not (a e)))
+    → ((d : ℕ) → bit t d ≡ (ltb d W.size && reaches W r s d)) → ((d : ℕ) → bit q d ≡ (ltb d W.size && not (bit t d)))
+    → (d : ℕ) → bit q d ≡ (ltb d W.size && every_below W.size (λ e. not (W.roles r d e) || a e))
+all_bits W r s t q a few is reach out d =
     out d
-    ∙ clip d n (not (bit t d)) (every_below n (λ e. not (edge_in edges r d e) || a e)) (λ l.
-    ap (λ (b : Bool). not b) (some_bits n edges r s t (λ e. not (a e)) few is reach d)
-    ∙ ap (λ (b : Bool). not (b && some_below n (λ e. edge_in edges r d e && not (a e)))) (lt-ltb d n l)
-    ∙ not_some n (edge_in edges r d) a)
-
--- the numbers from 1 to 7 are the kinds from `bot` to `all`
-pub other_kind : (k : ℕ) → ((((((Unit {0} × (k ≡ 1 → ⊥)) × (k ≡ 2 → ⊥)) × (k ≡ 3 → ⊥)) × (k ≡ 4 → ⊥)) × (k ≡ 5 → ⊥)) × (k ≡ 6 → ⊥)) × (k ≡ 7 → ⊥) → kind_at k ≡ Kind.top
-other_kind zero r = refl
-other_kind (suc zero) r = absurd (r.0.0.0.0.0.0.1 refl)
-other_kind (suc (suc zero)) r = absurd (r.0.0.0.0.0.1 refl)
-other_kind (suc (suc (suc zero))) r = absurd (r.0.0.0.0.1 refl)
-other_kind (suc (suc (suc (suc zero)))) r = absurd (r.0.0.0.1 refl)
-other_kind (suc (suc (suc (suc (suc zero))))) r = absurd (r.0.0.1 refl)
-other_kind (suc (suc (suc (suc (suc (suc zero)))))) r = absurd (r.0.1 refl)
-other_kind (suc (suc (suc (suc (suc (suc (suc zero))))))) r = absurd (r.1 refl)
-other_kind (suc (suc (suc (suc (suc (suc (suc (suc k)))))))) r = refl
+    ∙ clip d W.size (not (bit t d)) (every_below W.size (λ e. not (W.roles r d e) || a e)) (λ l.
+    ap (λ (b : Bool). not b) (some_bits W r s t (λ e. not (a e)) few is reach d)
+    ∙ ap (λ (b : Bool). not (b && some_below W.size (λ e. W.roles r d e && not (a e)))) (lt-ltb d W.size l)
+    ∙ not_some W.size (W.roles r d) a)
 
 -- the same elements of the parts, the same elements
 pub extent_same : (W : World) (k : Kind) (x y : ℕ) (m n : ℕ → ℕ → Bool) → All (λ p. (d : ℕ) → d < W.size → m p d ≡ n p d) (concepts (fields_by k x y))

@@ -1,35 +1,34 @@
 -- The extensions, filled entry by entry: an entry's set follows from those above it, which are filled already, and a store leaves them as
 -- they are.
 -- Assumes nothing.
-use Prim.Native.Nat.{ℕ, ◌+◌, ◌<◌}
+use Prim.Native.Nat.{ℕ, ◌+◌, ◌≤◌, ◌<◌}
 use native.Mathlib.Omega.{arith}
 use native.Mathlib.Decide.{ℕ_discrete}
 use mathlib.Core.Bool.{Bool, ◌&&◌}
 use mathlib.Core.List.{List}
-use mathlib.Core.Path.{◌≡◌, refl, sym, ap, subst, ◌∙◌}
+use mathlib.Core.Path.{◌≡◌, refl, sym, ap, ◌∙◌}
 use lib.Dec.{ltb}
 use lib.ListN.{length, get_or, set, replicate}
 use lib.Seq.{get_or-set_same, get_or-set_other}
 use borrow.Author.Tests.{lt-ltb, le-ltb}
 use Rattle.alc.specs.Lists.{All}
 use Rattle.alc.specs.Meaning.{World, member}
-use Rattle.alc.specs.Table.{Kind, Table, Entry, entry, entry_of, entry_fields, tree_of}
-use Rattle.alc.specs.Shown.{table_of}
-use Rattle.alc.proofs.ShownLaws.{line_at, table_at}
+use Rattle.alc.specs.Table.{Table, Entry, entry, entry_fields, tree_of}
+use Rattle.alc.specs.Entries.{Layered}
 use Rattle.sets.specs.Bit.{bit}
 use Rattle.extents.specs.Extent.{extent, Extended}
-use Rattle.models.specs.Shown.{Below, Tabled}
+use Rattle.models.specs.Shown.{Below}
+use Rattle.models.proofs.InRange.{in_range_lem}
 use Rattle.sets.proofs.BitLaws.{bit_zero, ltb_more}
 use Rattle.extents.proofs.ExtentLaws.{clip, extent_same}
 use Rattle.alc.proofs.ListFacts.{All-map, zeros}
 use Rattle.alc.proofs.Trees.{parts, WellFormed}
 use Rattle.extents.proofs.Trees.{below_more, member_law}
 
--- line i of the columns has its numbers in range
-pub line_fits : (ks xs ys : List ℕ) (n : ℕ) → Tabled ks xs ys n → (i : ℕ) → i < n → All (Below 256 0) (entry_fields (line_at ks xs ys i))
-line_fits ks xs ys n t i h =
-    subst (λ (e : Entry). All (Below 256 0) (entry_fields e)) (table_at ks xs ys n i (entry_of Kind.top 0 0) h)
-    (All-map (below_more i 256 0 (omega (arith, t.few))) (entry_fields (entry (table_of ks xs ys n) i)) (t.ranged i))
+-- each line has its numbers in range
+pub line_fits : (T : Table) → Layered T → length T ≤ 256 → (i : ℕ) → i < length T → All (Below 256 0) (entry_fields (entry T i))
+unfolding Layered
+line_fits T r few i h = All-map (below_more i 256 0 (omega arith)) (entry_fields (entry T i)) (in_range_lem i 0 (entry_fields (entry T i)) (r i h))
 
 -- the sets of the lines below i are known, and that of line i, which is e, is put at i
 module _ (W : World) (T : Table) (wf : WellFormed T) (ext : List ℕ) (i res new : ℕ) (e : Entry) (at : entry T i ≡ e)

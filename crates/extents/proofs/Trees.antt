@@ -2,28 +2,37 @@
 -- Assumes nothing.
 use Prim.Native.Nat.{ℕ, ◌<◌, ◌≤◌}
 use native.Mathlib.Omega.{arith}
+use native.Mathlib.Decide.{dec_lt}
+use lib.ListN.{length, get_or-eq_default}
 use mathlib.Core.List.{List, [], ◌∷◌}
 use mathlib.Core.Path.{◌≡◌, refl, ap, ◌∙◌}
 use Rattle.alc.specs.Lists.{All}
 use Rattle.alc.specs.Ranges.{Field, role, atom, name, element, size, concept}
 use Rattle.alc.specs.Meaning.{Tree, World, member}
-use Rattle.alc.specs.Table.{Table, Kind, entry, entry_fields, shape, tree_of}
-use Rattle.alc.proofs.Trees.{concepts, WellFormed, law}
+use Rattle.alc.specs.Table.{Table, Kind, entry, entry_of, entry_fields, shape, tree_of}
+use Rattle.alc.specs.Entries.{Layered}
+use Rattle.alc.proofs.Trees.{concepts, parts, WellFormed, law}
 use Rattle.extents.specs.Extent.{extent}
-use Rattle.models.specs.Shown.{Below, Ranged}
+use Rattle.models.specs.Shown.{Below}
+use Rattle.models.proofs.InRange.{in_range_lem}
 
 -- a table whose numbers are in range is well formed
-pub formed : (T : Table) → Ranged T → WellFormed T
-formed T r i = go (entry_fields (entry T i)) (r i)
+pub formed : (T : Table) → Layered T → WellFormed T
+unfolding Layered
+formed T r i = go (dec_lt i (length T))
   where
-    go : (fs : List Field) → All (Below i 0) fs → All (λ p. p < i) (concepts fs)
-    go [] h = tt
-    go (role r ∷ fs) h = go fs h.1
-    go (atom A ∷ fs) h = go fs h.1
-    go (name a ∷ fs) h = go fs h.1
-    go (element d ∷ fs) h = go fs h.1
-    go (size n ∷ fs) h = go fs h.1
-    go (concept p ∷ fs) h = (h.0, go fs h.1)
+    below : (fs : List Field) → All (Below i 0) fs → All (λ p. p < i) (concepts fs)
+    below [] h = tt
+    below (role r ∷ fs) h = below fs h.1
+    below (atom A ∷ fs) h = below fs h.1
+    below (name a ∷ fs) h = below fs h.1
+    below (element d ∷ fs) h = below fs h.1
+    below (size n ∷ fs) h = below fs h.1
+    below (concept p ∷ fs) h = (h.0, below fs h.1)
+
+    go : Dec (i < length T) → All (λ p. p < i) (parts (entry T i))
+    go (yes h) = below (entry_fields (entry T i)) (in_range_lem i 0 (entry_fields (entry T i)) (r i h))
+    go (no h) = let past : length T ≤ i = omega arith in rw (get_or-eq_default T (entry_of Kind.top 0 0) past) tt
 
 -- what is in range with n lines is so with more
 pub below_more : (n m k : ℕ) → n ≤ m → (f : Field) → Below n k f → Below m k f

@@ -12,14 +12,13 @@ use Rattle.alc.specs.Dossier as Dossier
 use Rattle.alc.specs.Shown.{claims_in}
 use Rattle.alc.specs.declared.Goal.{Goal as Records}
 use Rattle.alc.specs.Verdict.{State, facts}
-use Rattle.parts.specs.Parts.{Columns}
 use Rattle.models.specs.Told.{Tells}
+use Rattle.models.specs.declared.Model.{Model}
 
--- a place in the text behind so many lines, a table in columns, up to 64 claims with their numbers in range
-pub record Asked (text : List ℕ) (start before : ℕ) (ks xs ys : List ℕ) (entries : ℕ) (g : Records) : Type 0 where
+-- a place in the text behind so many lines, up to 64 claims with their numbers in range of a table of so many entries
+pub record Asked (text : List ℕ) (start before entries : ℕ) (g : Records) : Type 0 where
   pub within : start ≤ length text
   pub counted : before ≤ start
-  pub columns : Columns ks xs ys entries
   pub few : g.count ≤ 64
   pub ranges : All (λ s. every (in_range entries 0) (claim_fields (claim s)) ≡ true) (claims_in g)
 
@@ -35,7 +34,7 @@ fact_by w x y z = get_or (map (λ r. r.said) (Dossier.facts x y z)) (w - facts_f
 abbrev pub fact_in : Line → Fact
 fact_in l = fact_by l.word (l.n0 % 256) (l.n1 % 256) (l.n2 % 256)
 
--- a fact was put behind the facts fs: the answer says whether it is new, and where it is the arrays tell it besides
-pub record Stored (n : ℕ) (fs : List Fact) (f : Fact) (places atoms edges : List ℕ) (fresh : Bool) : Type 0 where
+-- a fact was put behind the facts fs: the answer says whether it is new, and where it is the model tells it besides
+pub record Stored (n : ℕ) (fs : List Fact) (f : Fact) (m : Model) (fresh : Bool) : Type 0 where
   pub answer : fresh ≡ not (repeats fs f)
-  pub told : fresh ≡ true → Tells n (fs ++ (f ∷ [])) places atoms edges
+  pub told : fresh ≡ true → Tells n (fs ++ (f ∷ [])) m

@@ -1,10 +1,10 @@
 -- What a read into the rest of a buffer leaves in its front: what was there, and behind it the bytes that were read. Assumes nothing.
 use Rattle.std.proofs.Common.{◌≡◌, ℕ, ◌+◌, ◌≤◌, List, ◌++◌, length, take, refl, sym, ap, subst, ◌∙◌, arith}
 use Rattle.std.proofs.lemmas.List.{take-take, length-take-le}
-use Rattle.std.proofs.lemmas.Slice.{take-put_mid, take-put_mid_below}
+use Rattle.std.proofs.lemmas.Slice.{take-put_mid}
 use Rattle.std.proofs.Math.Seq.{take-append-add}
-use Rattle.std.proofs.KnownBytes.{Consumes-trans, Consumes-kept}
-use Rattle.std.specs.Io.KnownBytes.{Consumes, Keeps}
+use Rattle.std.proofs.KnownBytes.{Consumes-trans}
+use Rattle.std.specs.Io.KnownBytes.{Consumes}
 use Rattle.std.specs.declared.option.Option.{Option}
 use borrow.Rule.Slice.PartMut.{put_mid}
 
@@ -19,8 +19,3 @@ take_more d k m xs ys within some =
 pub filled : (a b c : Option (List ℕ)) (d k m : ℕ) (xs ys : List ℕ) → d ≤ length xs → m ≤ length ys → Consumes a b (take d xs) → Consumes b c (take m ys)
     → Consumes a c (take (d + m) (put_mid d k xs ys))
 filled a b c d k m xs ys within some before read = subst (Consumes a c) (sym (take_more d k m xs ys within some)) (Consumes-trans a b c _ _ before read)
-
--- a read that fails: it holds what it held
-pub kept : (a b c : Option (List ℕ)) (d k : ℕ) (xs ys : List ℕ) → d ≤ length xs → Consumes a b (take d xs) → Keeps b c → Consumes a c (take d (put_mid d k xs ys))
-kept a b c d k xs ys within before same =
-    subst (Consumes a c) (sym (take-put_mid_below d k xs ys d (omega arith) within)) (Consumes-kept a b c _ before same)

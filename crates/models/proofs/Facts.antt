@@ -1,24 +1,24 @@
--- The arrays tell the facts that the lines say: blank arrays tell none, and each line adds to both sides alike, since a fact is said among
--- more facts just if it was said among the first or is the last.
+-- A model tells the facts that the lines say: each line adds to both sides alike, since a fact is said among more facts just if it was said
+-- among the first or is the last.
 -- Assumes nothing.
-use Prim.Native.Nat.{ℕ, ◌*◌, ◌+◌, ◌<◌}
+use Prim.Native.Nat.{ℕ}
 use native.Mathlib.Decide.{ℕ_discrete}
-use mathlib.Core.Bool.{Bool, true, false, not, cond, decide, ◌&&◌, ◌||◌, false≢true, and-false, or-false}
+use mathlib.Core.Bool.{Bool, true, false, not, cond, decide, ◌&&◌, ◌||◌, false≢true, or-false}
 use mathlib.Core.List.{List, [], ◌∷◌, ◌++◌, append-nil, append_assoc}
-use mathlib.Core.Path.{◌≡◌, refl, sym, ap, ap₂, subst, ◌∙◌, fun_ext}
-use lib.Dec.{eqb, ltb}
-use lib.ListN.{get_or, replicate}
+use mathlib.Core.Path.{◌≡◌, refl, sym, ap, ap₂, ◌∙◌, fun_ext}
+use lib.Dec.{eqb}
+use lib.ListN.{get_or}
 use borrow.Author.Tests.{eq-eqb, ne_eqb, eqb-true}
-use Rattle.alc.specs.Lists.{All, every, is_empty}
+use Rattle.alc.specs.Lists.{every, is_empty}
 use Rattle.alc.specs.Meaning.{World}
 use Rattle.alc.specs.Claims.{Sided, claim, names}
 use Rattle.alc.specs.Model.{Fact, Fact-discrete, places, has, edge, is_said, places_of, places_in, repeats, interp_of, all_placed}
 use Rattle.alc.proofs.Logic.{both_true}
-use Rattle.alc.proofs.ListFacts.{any_more, zeros}
-use Rattle.sets.specs.Bit.{bit}
-use Rattle.models.specs.Shown.{atom_in, edge_in, seats, seats_of, interp_shown, all_seated, with_atom, with_edge, PlaceSet, AtomSet, EdgeSet}
+use Rattle.alc.proofs.ListFacts.{any_more}
+use Rattle.models.specs.Arrays.{seats_of}
+use Rattle.models.specs.Shown.{interp_shown, all_seated, with_atom, with_edge, PlaceSet, AtomSet, EdgeSet}
+use Rattle.models.specs.declared.Model.{Model}
 use Rattle.models.specs.Told.{Tells}
-use Rattle.sets.proofs.BitLaws.{bit_zero}
 
 -- two facts are equal just if they are of one word and their numbers are equal
 decide_is : {P : Type 0} (d : Dec P) (b : Bool) → (P → b ≡ true) → (b ≡ true → P) → decide d ≡ b
@@ -85,68 +85,51 @@ module _ (n : ℕ) (fs : List Fact) where
       (fun_ext (λ B. fun_ext (λ f. sym (said_still (edge r d e) (has B f) (λ (p : has B f ≡ edge r d e). cc)))))
       (fun_ext (λ s. fun_ext (λ f. fun_ext (λ g. sym (said_more (edge r d e) (edge s f g) (eqb r s && (eqb d f && eqb e g)) (same_edge r d e s f g))))))
 
--- blank arrays: no atom has an element, no role a pair, and no name is placed
-pub none_told : (n : ℕ) → Tells n [] (replicate 64 0) (replicate 64 0) (replicate 512 0)
-unfolding atom_in edge_in seats_of
-none_told n = record {
-  world =
-      ap₂ (world n [])
-      (fun_ext (λ A. fun_ext (λ d. ap (λ (x : ℕ). bit x d) (zeros 64 A) ∙ bit_zero d)))
-      (fun_ext (λ r. fun_ext (λ d. fun_ext (λ e. ap (λ (x : ℕ). ltb d 32 && bit x e) (zeros 512 (r * 32 + d)) ∙ ap (λ (t : Bool). ltb d 32 && t) (bit_zero e) ∙ and-false (ltb d 32)))));
-  seats = λ a. ap seats (zeros 64 a);
-  inside = λ a. subst (All (λ d. d < n)) (sym (ap seats (zeros 64 a))) tt;
-}
-
-module _ (n : ℕ) (fs : List Fact) (ps ats es : List ℕ) (t : Tells n fs ps ats es) where
-  -- the interpretation that the arrays show is that of the facts
-  pub told_interp : interp_shown n ps ats es ≡ interp_of n fs
+module _ (n : ℕ) (fs : List Fact) (m : Model) (t : Tells n fs m) where
+  -- the interpretation that the model shows is that of the facts
+  pub told_interp : interp_shown m ≡ interp_of n fs
   told_interp = ap₂ (λ (W : World) (S : ℕ → List ℕ). record { world = W; place = λ a. get_or (S a) 0 0 }) t.world (fun_ext t.seats)
 
   -- every name in the claims is placed by the facts
-  pub told_placed : (cs : List Sided) → all_seated ps cs ≡ all_placed fs cs
+  pub told_placed : (cs : List Sided) → all_seated m cs ≡ all_placed fs cs
   told_placed cs = ap (λ (S : ℕ → List ℕ). every (λ s. every (λ a. not (is_empty (S a))) (names (claim s))) cs) (fun_ext t.seats)
 
-  -- `has A d`: the answer says whether it repeats nothing, and the arrays tell it besides
-  pub atom_answer : (new : List ℕ) (A d : ℕ) (r : Bool) → AtomSet ats new A d r → r ≡ not (repeats fs (has A d))
-  atom_answer new A d r s = s.answer ∙ ap (λ (W : World). not (W.atoms A d)) t.world
+  module _ (new : Model) (r : Bool) where
+    -- `has A d`: the answer says whether it repeats nothing, and the model tells it besides
+    pub atom_answer : (A d : ℕ) → AtomSet m new A d r → r ≡ not (repeats fs (has A d))
+    atom_answer A d s = s.answer ∙ ap (λ (W : World). not (W.atoms A d)) t.world
 
-  pub atom_told : (new : List ℕ) (A d : ℕ) (r : Bool) → AtomSet ats new A d r → Tells n (fs ++ (has A d ∷ [])) ps new es
-  atom_told new A d r s = record {
-    world = s.world n es ∙ ap (λ (W : World). with_atom W A d) t.world ∙ world_atom n fs A d;
-    seats = λ a. t.seats a ∙ sym (places_more fs (has A d) a ∙ append-nil (places_in fs a));
-    inside = t.inside;
-  }
+    pub atom_told : (A d : ℕ) → AtomSet m new A d r → Tells n (fs ++ (has A d ∷ [])) new
+    atom_told A d s = record {
+      world = s.world ∙ ap (λ (W : World). with_atom W A d) t.world ∙ world_atom n fs A d;
+      seats = λ a. s.seats a ∙ t.seats a ∙ sym (places_more fs (has A d) a ∙ append-nil (places_in fs a));
+    }
 
-  -- `edge r d e`, likewise
-  pub edge_answer : (new : List ℕ) (r d e : ℕ) (q : Bool) → EdgeSet es new r d e q → q ≡ not (repeats fs (edge r d e))
-  edge_answer new r d e q s = s.answer ∙ ap (λ (W : World). not (W.roles r d e)) t.world
+    -- `edge r d e`, likewise
+    pub edge_answer : (q d e : ℕ) → EdgeSet m new q d e r → r ≡ not (repeats fs (edge q d e))
+    edge_answer q d e s = s.answer ∙ ap (λ (W : World). not (W.roles q d e)) t.world
 
-  pub edge_told : (new : List ℕ) (r d e : ℕ) (q : Bool) → EdgeSet es new r d e q → Tells n (fs ++ (edge r d e ∷ [])) ps ats new
-  edge_told new r d e q s = record {
-    world = s.world n ats ∙ ap (λ (W : World). with_edge W r d e) t.world ∙ world_edge n fs r d e;
-    seats = λ a. t.seats a ∙ sym (places_more fs (edge r d e) a ∙ append-nil (places_in fs a));
-    inside = t.inside;
-  }
+    pub edge_told : (q d e : ℕ) → EdgeSet m new q d e r → Tells n (fs ++ (edge q d e ∷ [])) new
+    edge_told q d e s = record {
+      world = s.world ∙ ap (λ (W : World). with_edge W q d e) t.world ∙ world_edge n fs q d e;
+      seats = λ a. s.seats a ∙ t.seats a ∙ sym (places_more fs (edge q d e) a ∙ append-nil (places_in fs a));
+    }
 
-  -- `name a d`, likewise where the name was free
-  pub place_answer : (new : List ℕ) (a d : ℕ) (r : Bool) → PlaceSet ps new a d r → r ≡ not (repeats fs (places a d))
-  place_answer new a d r s = s.answer ∙ ap (λ (l : List ℕ). not (not (is_empty l))) (t.seats a)
+    -- `name a d`, likewise where the name was free
+    pub place_answer : (a d : ℕ) → PlaceSet m new a d r → r ≡ not (repeats fs (places a d))
+    place_answer a d s = s.answer ∙ ap (λ (l : List ℕ). not (not (is_empty l))) (t.seats a)
 
-  pub place_told : (new : List ℕ) (a d : ℕ) (r : Bool) → d < n → PlaceSet ps new a d r → r ≡ true → Tells n (fs ++ (places a d ∷ [])) new ats es
-  place_told new a d r low s free = record {
-    world = t.world ∙ world_place n fs a d;
-    seats = λ b. s.seats b ∙ ap (λ (q : Bool). cond (q && eqb b a) (d ∷ []) (seats_of ps b)) free ∙ put b (ℕ_discrete b a) ∙ sym (places_more fs (places a d) b);
-    inside = λ b. subst (All (λ e. e < n)) (sym (s.seats b)) (low_at b (r && eqb b a));
-  }
-    where
-      low_at : (b : ℕ) (q : Bool) → All (λ e. e < n) (cond q (d ∷ []) (seats_of ps b))
-      low_at b true = (low, tt)
-      low_at b false = t.inside b
+    pub place_told : (a d : ℕ) → PlaceSet m new a d r → r ≡ true → Tells n (fs ++ (places a d ∷ [])) new
+    place_told a d s free = record {
+      world = s.world ∙ t.world ∙ world_place n fs a d;
+      seats = λ b.
+          s.seats b ∙ ap (λ (q : Bool). cond (q && eqb b a) (d ∷ []) (seats_of m.places b)) free ∙ put b (ℕ_discrete b a) ∙ sym (places_more fs (places a d) b);
+    }
+      where
+        empty : (l : List ℕ) → not (not (is_empty l)) ≡ true → l ≡ []
+        empty [] h = refl
+        empty (x ∷ l) h = absurd (false≢true h)
 
-      empty : (l : List ℕ) → not (not (is_empty l)) ≡ true → l ≡ []
-      empty [] h = refl
-      empty (x ∷ l) h = absurd (false≢true h)
-
-      put : (b : ℕ) → Dec (b ≡ a) → cond (eqb b a) (d ∷ []) (seats_of ps b) ≡ places_in fs b ++ cond (eqb b a) (d ∷ []) []
-      put b (yes e) = rw (eq-eqb b a e, e, empty (places_in fs a) (sym (place_answer new a d r s) ∙ free))
-      put b (no e) = rw (ne_eqb b a e) (t.seats b ∙ sym (append-nil (places_in fs b)))
+        put : (b : ℕ) → Dec (b ≡ a) → cond (eqb b a) (d ∷ []) (seats_of m.places b) ≡ places_in fs b ++ cond (eqb b a) (d ∷ []) []
+        put b (yes e) = rw (eq-eqb b a e, e, empty (places_in fs a) (sym (place_answer a d s) ∙ free))
+        put b (no e) = rw (ne_eqb b a e) (t.seats b ∙ sym (append-nil (places_in fs b)))

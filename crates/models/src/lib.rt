@@ -1,50 +1,93 @@
-// A model in arrays of sets of 32 bits: its lines, told one by one. The caller holds the model in arrays of numbers and lends them.
-// `places[a]` is 0 where name a is not placed, and else its element and 1 more; `atoms[A]` has the elements of atom A; `edges[32 r + d]` has the
-// elements to which role r leads from element d.
+// A model: its lines, told one by one, are kept in arrays of sets of 32 bits, and what they say is read off the sets.
 #![tactic(auto)]
 
-ghost use Rattle.std.specs.Prelude.{◌<◌, length};
-ghost use Rattle.models.specs.Shown.{SetAdded, PlaceSet, AtomSet, EdgeSet};
+ghost use Rattle.std.specs.Prelude.{◌≡◌, ℕ, ◌<◌};
+ghost use Rattle.models.specs.Arrays.{Inside, seats, seats_of};
 
-use sets::{in_set, marked};
+use alc::{Atom, Element, Name, Role};
+use sets::{Set, Size};
 
-// Puts element d into the set at i, and says whether it was not there.
-fn add_to(sets: &mut [u32], i: usize, d: alc::Element) -> bool
-    requires { (i < length sets.old) × (d.0 < 32) }
-    ensures { SetAdded sets.old sets.new i d.0 result }
-{
-    let old = sets[i];
-    sets[i] = marked(old, d, true);
-    !in_set(old, d)
+// A model of a size: the element at which each name is placed, the elements of each atom, and at 32 r + d the elements to which role r leads from
+// element d.
+#[derive(Drop)]
+pub struct Model {
+    pub size: Size,
+    places: [Option<Element>; 64],
+    atoms: [Set; 64],
+    edges: [Set; 512],
+    pub ghost inside: { Inside size.count places },
 }
 
-// `name a d`: puts the name at the element if it is free, and says whether it was.
-pub fn set_place(places: &mut [u8; 64], a: alc::Name, d: alc::Element) -> bool
-    requires { (a.0 < 64) × (d.0 < 32) }
-    ensures { PlaceSet places.old places.new a.0 d.0 result }
-{
-    let i = a.0 as usize;
-    // As a slice the array has a length that the proof can name.
-    let all: &[u8] = places;
-    if all[i] != 0 {
-        return false;
+impl Model {
+    ghost use Rattle.std.specs.Prelude.{[]};
+    ghost use Rattle.sets.specs.Bit.{bit};
+    ghost use Rattle.models.specs.Shown.{world_of, PlaceSet, AtomSet, EdgeSet};
+    ghost use Rattle.models.specs.Told.{Tells};
+
+    // No name is placed, no atom has an element and no role a pair.
+    pub fn new(size: Size) -> Self
+        ensures size { result.size ≡ size }
+        ensures tells { Tells size.count [] result }
+    {
+        Model {
+            size,
+            places: [None; 64],
+            atoms: [Set::EMPTY; 64],
+            edges: [Set::EMPTY; 512],
+        }
     }
-    places[i] = d.0 + 1;
-    true
-}
 
-// `has A d`: puts the element into the atom, and says whether it was not there.
-pub fn set_atom(atoms: &mut [u32; 64], a: alc::Atom, d: alc::Element) -> bool
-    requires { (a.0 < 64) × (d.0 < 32) }
-    ensures { AtomSet atoms.old atoms.new a.0 d.0 result }
-{
-    add_to(atoms, a.0 as usize, d)
-}
+    // `name a d`: puts the name at the element if it is free, and says whether it was.
+    pub fn place(&mut self, a: Name, d: Element) -> bool
+        requires { (a.0 < 64) × (d.0 < self.old.size.count) }
+        ensures { PlaceSet self.old self.new a.0 d.0 result }
+    {
+        let i = a.0 as usize;
+        let seat = self.places[i];
+        if seat.is_some() {
+            return false;
+        }
+        self.places[i] = Some(d);
+        true
+    }
 
-// `edge r d e`: puts the pair into the role, and says whether it was not there.
-pub fn set_edge(edges: &mut [u32; 512], r: alc::Role, d: alc::Element, e: alc::Element) -> bool
-    requires { (r.0 < 16) × (d.0 < 32) × (e.0 < 32) }
-    ensures { EdgeSet edges.old edges.new r.0 d.0 e.0 result }
-{
-    add_to(edges, (r.0 as usize) * 32 + (d.0 as usize), e)
+    // `has A d`: puts the element into the atom, and says whether it was not there.
+    pub fn has(&mut self, a: Atom, d: Element) -> bool
+        requires { (a.0 < 64) × (d.0 < 32) }
+        ensures { AtomSet self.old self.new a.0 d.0 result }
+    {
+        self.atoms[a.0 as usize].insert(d)
+    }
+
+    // `edge r d e`: puts the pair into the role, and says whether it was not there.
+    pub fn edge(&mut self, r: Role, d: Element, e: Element) -> bool
+        requires { (r.0 < 16) × (d.0 < 32) × (e.0 < 32) }
+        ensures { EdgeSet self.old self.new r.0 d.0 e.0 result }
+    {
+        self.edges[(r.0 as usize) * 32 + (d.0 as usize)].insert(e)
+    }
+
+    // The element at which a name is placed.
+    pub fn place_of(&self, a: Name) -> Option<Element>
+        requires { a.0 < 64 }
+        ensures { seats result ≡ seats_of self.now.places a.0 }
+    {
+        self.places[a.0 as usize]
+    }
+
+    // The elements of an atom.
+    pub fn elements(&self, a: Atom) -> Set
+        requires { a.0 < 64 }
+        ensures { (d : ℕ) → bit result d ≡ (world_of self.now).atoms a.0 d }
+    {
+        self.atoms[a.0 as usize]
+    }
+
+    // The elements to which a role leads from an element.
+    pub fn successors(&self, r: Role, d: Element) -> Set
+        requires { (r.0 < 16) × (d.0 < 32) }
+        ensures { (e : ℕ) → bit result e ≡ (world_of self.now).roles r.0 d.0 e }
+    {
+        self.edges[(r.0 as usize) * 32 + (d.0 as usize)]
+    }
 }

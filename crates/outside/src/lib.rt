@@ -8,7 +8,7 @@ ghost use Rattle.outside.specs.Told.{packed, packed_by};
 
 use alc::{Answer, Claim};
 
-// The words of a verdict, as a caller meets them.
+// The words of a verdict, as a caller meets them: numbers and no enum, since the verdict goes to C as one number.
 const PROVED: u8 = 0;
 
 const REFUTED: u8 = 1;
@@ -30,9 +30,9 @@ fn pack_answer(answer: Answer) -> u64
     ensures { result ≡ packed (answered answer) }
 {
     match answer {
-        Answer::Proved(n) => pack(PROVED, 0, n),
-        Answer::Refuted(n) => pack(REFUTED, 0, n),
-        Answer::Refused(k, n) => pack(REFUSED, k, n),
+        Answer::Proved(lines) => pack(PROVED, 0, lines),
+        Answer::Refuted(lines) => pack(REFUTED, 0, lines),
+        Answer::Refused(refusal, line) => pack(REFUSED, refusal, line),
     }
 }
 

@@ -1,9 +1,8 @@
 -- The line that is printed for a verdict (document 01, "The judging program"), byte for byte.
 -- Assumes nothing.
-use Rattle.std.specs.Prelude.{ℕ, zero, suc, ◌+◌, ◌/◌, ◌%◌, true, false, List, [], ◌∷◌, ◌++◌, ltb, take}
+use Rattle.std.specs.Prelude.{ℕ, zero, suc, ◌+◌, ◌/◌, ◌%◌, true, false, List, [], ◌∷◌, ◌++◌, ltb}
 use Rattle.lines.specs.Text.{bytes}
 use Rattle.alc.specs.Verdict.{Verdict, word, number, line}
-use Rattle.report.specs.declared.Printed.{Printed}
 
 -- the decimal digits of n, with no leading zero; k is a number of digits that are enough
 unfoldable pub digits : ℕ → ℕ → List ℕ
@@ -21,7 +20,3 @@ columns w k n = w ++ (9 ∷ (decimal k ++ (9 ∷ (decimal n ++ (10 ∷ [])))))
 -- the line of a verdict
 unfoldable pub printed : Verdict → List ℕ
 printed v = columns (bytes (word v)) (number v) (line v)
-
--- the bytes that a record of the code holds
-abbrev pub held : Printed → List ℕ
-held p = take p.count p.bytes

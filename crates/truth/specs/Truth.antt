@@ -1,18 +1,17 @@
 -- A claim's truth, read off the set of each concept, the places and the edges.
 -- Assumes nothing.
 use Rattle.std.specs.Prelude.{ℕ, Bool, not, ◌||◌, List, get_or}
-use Rattle.alc.specs.Meaning.{every_below}
+use Rattle.alc.specs.Meaning.{Interp, every_below}
 use Rattle.alc.specs.Claims.{Claim, is, sub, link, Sided, left, right}
 use Rattle.sets.specs.Bit.{bit}
-use Rattle.models.specs.Shown.{seat_of, edge_in}
 
--- a claim is true among n elements, with these sets of the concepts, these places and these edges
-abbrev pub truth_in : ℕ → List ℕ → List ℕ → List ℕ → Claim → Bool
-truth_in n ext places edges (is a i) = bit (get_or ext i 0) (seat_of places a)
-truth_in n ext places edges (sub i j) = every_below n (λ d. not (bit (get_or ext i 0) d) || bit (get_or ext j 0) d)
-truth_in n ext places edges (link r a b) = edge_in edges r (seat_of places a) (seat_of places b)
+-- a claim is true in the interpretation, with these sets of the concepts
+abbrev pub truth_in : List ℕ → Interp → Claim → Bool
+truth_in ext I (is a i) = bit (get_or ext i 0) (I.place a)
+truth_in ext I (sub i j) = every_below I.world.size (λ d. not (bit (get_or ext i 0) d) || bit (get_or ext j 0) d)
+truth_in ext I (link r a b) = I.world.roles r (I.place a) (I.place b)
 
 -- a left claim that is false, a right claim that is true
-abbrev pub wrong_in : ℕ → List ℕ → List ℕ → List ℕ → Sided → Bool
-wrong_in n ext places edges (left c) = not (truth_in n ext places edges c)
-wrong_in n ext places edges (right c) = truth_in n ext places edges c
+abbrev pub wrong_in : List ℕ → Interp → Sided → Bool
+wrong_in ext I (left c) = not (truth_in ext I c)
+wrong_in ext I (right c) = truth_in ext I c

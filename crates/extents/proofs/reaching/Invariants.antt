@@ -1,14 +1,12 @@
--- The invariant and measure of the loop.
-use Prim.Native.Nat.{ℕ, ◌≤◌, ◌+◌, ◌-◌}
+-- The invariant of the loop.
+use Prim.Native.Nat.{ℕ}
 use mathlib.Core.Bool.{◌&&◌}
 use mathlib.Core.Path.{◌≡◌}
 use lib.Dec.{ltb}
-use lib.ListN.{get_or}
-use Rattle.sets.specs.Bit.{bit, common}
+use Rattle.sets.specs.Bit.{bit}
+use Rattle.models.specs.Shown.{world_of}
+use Rattle.extents.specs.Extent.{reaches}
 use Rattle.extents.proofs.reaching.Given as goal
 
 abbrev pub invariant-loop-d : goal.invariant-loop-d
-invariant-loop-d l = (l.d ≤ l.size) × ((e : ℕ) → bit l.out e ≡ (ltb e l.d && common (get_or l.edges (l.row + e) 0) l.s))
-
-abbrev pub decreases-loop-d : goal.decreases-loop-d
-decreases-loop-d l = l.size - l.d
+invariant-loop-d l = (e : ℕ) → bit l.out e ≡ (ltb e l.d && reaches (world_of l.model) l.r.0 l.s e)

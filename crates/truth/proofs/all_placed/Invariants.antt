@@ -1,13 +1,9 @@
--- The invariant and measure of the loop.
-use Prim.Native.Nat.{◌≤◌, ◌-◌}
+-- The invariant of the loop: what holds of all the claims is what holds of those behind the index, so that at the end nothing is left to hold.
 use mathlib.Core.Path.{◌≡◌}
 use lib.ListN.{drop}
 use Rattle.alc.specs.Shown.{claims_in}
 use Rattle.models.specs.Shown.{all_seated}
 use Rattle.truth.proofs.all_placed.Given as goal
 
-abbrev pub invariant-loop-i : goal.invariant-loop-i
-invariant-loop-i l = (l.i ≤ l.n) × (all_seated l.places (claims_in l.claims) ≡ all_seated l.places (drop l.i (claims_in l.claims)))
-
-abbrev pub decreases-loop-i : goal.decreases-loop-i
-decreases-loop-i l = l.n - l.i
+abbrev pub invariant-loop-c : goal.invariant-loop-c
+invariant-loop-c l = all_seated l.model (claims_in l.fn.claims) ≡ all_seated l.model (drop l.c-index (claims_in l.fn.claims))
