@@ -24,5 +24,6 @@ pub mod Known
 pub mod Theorems
 -- For the code: its records and arrays lose nothing; the last arm of a `match`.
 pub mod Stored
+pub mod Refusals
 pub mod ShownLaws
 pub mod Arms

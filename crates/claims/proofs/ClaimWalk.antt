@@ -5,9 +5,11 @@ use native.Mathlib.Omega.{arith}
 use mathlib.Core.Bool.{Bool, true, false, cond}
 use mathlib.Core.List.{List, [], ◌∷◌, ◌++◌}
 use mathlib.Core.Path.{◌≡◌, refl, sym, ap, ap₂, subst, ◌∙◌}
-use lib.Dec.{ltb}
+use lib.Dec.{eqb, ltb}
 use lib.ListN.{length, drop, length-append}
-use borrow.Author.Tests.{ltb-true}
+use borrow.Author.Tests.{eqb-true, eqb-false, ltb-true}
+use Rattle.std.specs.Prelude.{Ok, Err}
+use Rattle.parts.specs.declared.Section.TheVariants.{Proof, Model}
 use Rattle.lines.specs.Text.{at_claims, words, row_of, stands as allowed_at, lines_of}
 use Rattle.lines.specs.Walk.{claims_from, sections_from, steps_from, read_at}
 use Rattle.lines.specs.declared.Line.{Line}
@@ -29,7 +31,7 @@ use Rattle.alc.specs.declared.Claim.{Claim as Record}
 use Rattle.alc.specs.Verdict.{State, rows, after}
 use Rattle.goals.proofs.Steps.{map-append}
 use Rattle.parts.specs.Fields.{said_fields}
-use Rattle.parts.specs.Parts.{sided_in, claim_rows, in_claims, in_steps, at_start, Through, none, ClaimsEnd, failed, ClaimsLead, proof, model, refused}
+use Rattle.parts.specs.Parts.{sided_in, claim_rows, section_at, in_claims, in_steps, at_start, Through, none, ClaimsEnd, failed, ClaimsLead, proof, model, refused}
 use Rattle.parts.proofs.Small.{small}
 use Rattle.parts.proofs.Through.{through_next}
 use Rattle.claims.proofs.ClaimLaws.{claim_said, rows_claim}
@@ -57,7 +59,7 @@ module _ (text : List ℕ) (T : Table) (begun : ℕ) where
 
   module _ (g : Records) (at n : ℕ) (v : Walk text T begun g at n) where
     -- the walk stops
-    pub stops : (x : Next) (k : ℕ) → read_at text at at_claims ≡ x → ClaimsEnd T v.cs x k → ClaimsLead text T begun v.cs n at k 0
+    pub stops : (x : Next) (k : ℕ) → read_at text at at_claims ≡ x → ClaimsEnd T v.cs x k → ClaimsLead text T begun v.cs n at (Err k)
     stops x k e d = refused v.so (subst (λ y. ClaimsEnd T v.cs y k) (sym e) d)
 
     module _ (l : Line) (to : ℕ) (r : read_at text at at_claims ≡ Found l to) where
@@ -76,12 +78,16 @@ module _ (text : List ℕ) (T : Table) (begun : ℕ) where
       turned s F e h q =
           through_next v.so l to F r (ap (λ u. refusal (rows (in_claims T v.cs) u)) e ∙ h) (ap (after (in_claims T v.cs)) e ∙ q)
 
-      pub turns : (k : ℕ) → l.word + 1 ≡ k + sections_from → 1 ≤ k → k ≤ 2 → ClaimsLead text T begun v.cs (n + 1) to 0 k
+      pub turns : sections_from ≤ l.word → ClaimsLead text T begun v.cs (n + 1) to (Ok (section_at l.word))
       unfolding rows after
-      turns zero e h g = absurd (omega arith)
-      turns (suc zero) e h g = let w : l.word ≡ sections_from = omega arith in let s : saying l ≡ Said.proof = rw w in proof (turned Said.proof (in_steps T v.cs 0 (v.cs ∷ [])) s refl refl)
-      turns (suc (suc zero)) e h g = let w : l.word ≡ suc sections_from = omega arith in let s : saying l ≡ Said.model = rw w in model (turned Said.model (at_start T v.cs) s refl refl)
-      turns (suc (suc (suc k))) e h g = absurd (omega arith)
+      turns h = go (eqb l.word sections_from) refl
+        where
+          go : (b : Bool) → eqb l.word sections_from ≡ b → ClaimsLead text T begun v.cs (n + 1) to (Ok (cond b Proof Model))
+          go true e = let w : l.word ≡ sections_from = eqb-true l.word sections_from e in let s : saying l ≡ Said.proof = rw w in proof (turned Said.proof (in_steps T v.cs 0 (v.cs ∷ [])) s refl refl)
+          go false e =
+              let w : l.word ≡ suc sections_from = omega (arith, h, (stands_among l f.allowed).1, eqb-false l.word sections_from e) in
+              let s : saying l ≡ Said.model = rw w in
+              model (turned Said.model (at_start T v.cs) s refl refl)
 
       -- a claim
       module _ (w : l.word < sections_from) where

@@ -1,20 +1,17 @@
 // The claims of a dossier, read line by line into a goal. Words and numbers come from `reading`, and no byte is seen here.
 #![tactic(auto)]
 
-ghost use Rattle.std.specs.Prelude.{◌≡◌, ◌<◌, ◌≤◌, length, cond, eqb};
-ghost use Rattle.lines.specs.Text.{on_left, on_right, word_count};
+ghost use Rattle.std.specs.Prelude.{◌≡◌, ◌<◌, ◌≤◌, length, cond, eqb, IfOk};
+ghost use Rattle.lines.specs.Text.{on_left, on_right};
 ghost use Rattle.lines.specs.Walk.{claims_from, sections_from};
 ghost use Rattle.alc.specs.Rows.{refusal};
 ghost use Rattle.alc.specs.Table.{Table};
-ghost use Rattle.alc.specs.Shown.{record_of};
-ghost use Rattle.parts.specs.Parts.{sided_in, claim_rows, ClaimsRead};
+ghost use Rattle.alc.specs.Shown.{record_of, row_number};
+ghost use Rattle.parts.specs.Parts.{sided_in, claim_rows, section_at, ClaimsRead};
 
-use alc::{Claim, Concept, Name, Role};
+use alc::{Claim, Concept, Name, Refusal, Refused, Role};
 use lines::{IN_CLAIMS, LEFT, Line, Next, RIGHT};
-use parts::{Heading, PROVES, ranged};
-
-// What is to be taken off a word that ends the claims, so that `proof` is PROVES and `model` is MODELS.
-const BEFORE: u8 = lines::PROOF - PROVES;
+use parts::{Heading, Section, ranged};
 
 // The side of a claim.
 fn side_of(l: Line) -> u8
@@ -44,23 +41,34 @@ fn made_claim(l: Line) -> Claim
     alc::link(side, Role(x), Name(y), Name(z))
 }
 
-// The number of the first row that a claim does not pass, behind so many others, or 0.
+// The claim that a line of the text is, behind so many others, or the first row that it does not pass.
 #[tactic(auto, using(crate::proofs::ClaimLaws::claim_full))]
-fn claim_refusal(l: Line, entries: usize, claims: usize) -> u8
-    requires { l.word < word_count }
-    ensures { result ≡ refusal (claim_rows entries claims l) }
+fn next_claim(l: Line, entries: usize, claims: usize) -> Result<Claim, Refusal>
+    requires { (claims_from ≤ l.word) × (l.word < sections_from) }
+    ensures row { row_number result ≡ refusal (claim_rows entries claims l) }
+    ensures claim { IfOk result (λ c. c ≡ record_of (sided_in l)) }
 {
     if claims >= 64 {
-        return 5;
+        return Err(Refusal::TooMany);
     }
     if !ranged(l, entries, 0) {
-        return 3;
+        return Err(Refusal::OutOfRange);
     }
-    0
+    Ok(made_claim(l))
+}
+
+// What a word ends the claims with.
+fn section(word: u8) -> Section
+    ensures { result ≡ section_at word }
+{
+    if word == lines::PROOF {
+        return Section::Proof;
+    }
+    Section::Model
 }
 
 // Reads the claims, from a position on, behind a table of so many lines, up to `proof` or `model`.
-pub fn read_claims(text: &[u8], start: usize, entries: usize) -> Heading
+pub fn read_claims(text: &[u8], start: usize, entries: usize) -> Result<Heading, Refused>
     requires { (start ≤ length text.now) × (entries ≤ start) × (entries ≤ 256) }
     ensures { (T : Table) → length T ≡ entries → ClaimsRead text.now T start result }
 {
@@ -68,48 +76,39 @@ pub fn read_claims(text: &[u8], start: usize, entries: usize) -> Heading
     let mut n = entries;
     let mut claims = goals::empty();
     loop {
+        let line = n + 1;
         match reading::read(text, at, IN_CLAIMS) {
             Next::Found(l, next) => {
-                if l.word >= lines::PROOF {
-                    return Heading {
-                        number: 0,
-                        section: l.word - BEFORE,
-                        at: next,
-                        lines: n + 1,
-                        claims: claims,
-                    };
-                }
-                let k = claim_refusal(l, entries, claims.count);
-                if k != 0 {
-                    return Heading {
-                        number: k,
-                        section: 0,
-                        at: at,
-                        lines: n,
-                        claims: claims,
-                    };
-                }
-                claims = goals::with(claims, made_claim(l));
-                n += 1;
                 at = next;
+                n = line;
+                if l.word >= lines::PROOF {
+                    return Ok(Heading {
+                        claims,
+                        section: section(l.word),
+                        at,
+                        lines: n,
+                    });
+                }
+                match next_claim(l, entries, claims.count) {
+                    Ok(claim) => {
+                        claims = goals::with(claims, claim);
+                    }
+                    Err(refusal) => {
+                        return Err(Refused { refusal, line });
+                    }
+                }
             }
             Next::Bad => {
-                return Heading {
-                    number: 2,
-                    section: 0,
-                    at: at,
-                    lines: n,
-                    claims: claims,
-                };
+                return Err(Refused {
+                    refusal: Refusal::Malformed,
+                    line,
+                });
             }
             Next::End => {
-                return Heading {
-                    number: 12,
-                    section: 0,
-                    at: at,
-                    lines: n,
-                    claims: claims,
-                };
+                return Err(Refused {
+                    refusal: Refusal::Unfinished,
+                    line,
+                });
             }
         }
     }

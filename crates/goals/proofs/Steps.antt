@@ -10,7 +10,9 @@ use mathlib.Core.Path.{◌≡◌, refl, sym, ap, ap₂, ◌∙◌}
 use lib.Dec.{eqb, ltb, leb}
 use lib.ListN.{length, get_or, length-map, length-append}
 use borrow.Author.Tests.{eqb-true, eq-eqb, leb-true}
-use Rattle.alc.specs.Lists.{any, every, elem}
+use Rattle.std.proofs.Common.{Result, Ok}
+use Rattle.std.specs.List.{list_any}
+use Rattle.alc.specs.Lists.{every, elem}
 use Rattle.alc.specs.Rows.{Row, row, refusal}
 use Rattle.alc.specs.Ranges.{in_range}
 use Rattle.alc.specs.Table.{Table}
@@ -22,8 +24,9 @@ use Rattle.alc.proofs.ShownLaws.{record_once}
 use Rattle.alc.proofs.Logic.{bool_by, not_or}
 use Rattle.alc.specs.declared.Claim.{Claim as Record}
 use Rattle.goals.specs.declared.Turn.{Turn}
-use Rattle.goals.specs.Records.{same_record, has_name, lacking, keeping, added, Ruling, ruling, kept_by, record_rows, premise_at, Turns}
-use Rattle.goals.proofs.RecordLaws.{same_eq, eq_same}
+use Rattle.alc.specs.declared.refusal.Refusal.{Refusal}
+use Rattle.goals.specs.Records.{same_record, has_name, lacking, keeping, added, Ruling, ruling, kept_by, record_rows, premise_at, row_number, Turns}
+use Rattle.goals.proofs.RecordLaws.{same_eq, eq_same, few_open}
 
 same_record_lem : (s t : Sided) → same_record (record_of s) (record_of t) ≡ same s t
 same_record_lem s t =
@@ -31,12 +34,12 @@ same_record_lem s t =
     (λ h. (decide_iff (Sided-discrete (Claim-discrete ℕ_discrete) s t)).1 (record_once s t (same_eq (record_of s) (record_of t) h)))
     (λ h. eq_same (record_of s) (record_of t) (ap record_of ((decide_iff (Sided-discrete (Claim-discrete ℕ_discrete) s t)).0 h)))
 
-has_record : (cs : List Sided) (s : Sided) → any (same_record (record_of s)) (map record_of cs) ≡ has cs s
+has_record : (cs : List Sided) (s : Sided) → list_any (same_record (record_of s)) (map record_of cs) ≡ has cs s
 has_record [] s = refl
 has_record (t ∷ cs) s = ap₂ ◌||◌ (same_record_lem s t) (has_record cs s)
 
 -- the claims needed
-needs_record : (cs ns : List Sided) → every (λ c. any (same_record c) (map record_of cs)) (map record_of ns) ≡ every (has cs) ns
+needs_record : (cs ns : List Sided) → every (λ c. list_any (same_record c) (map record_of cs)) (map record_of ns) ≡ every (has cs) ns
 needs_record cs [] = refl
 needs_record cs (s ∷ ns) = ap₂ ◌&&◌ (has_record cs s) (needs_record cs ns)
 
@@ -77,9 +80,9 @@ name_claim a (right (is x i)) = rw (or-false (eqb a x), eqb_turn a x) (lone (eqb
 name_claim a (right (sub i j)) = refl
 name_claim a (right (link r x y)) = rw (eqb_turn a x, eqb_turn a y) (pair (eqb x a) (eqb y a))
 
-any_names : (a : ℕ) (cs : List Sided) → not (any (has_name a) (map record_of cs)) ≡ every (avoids (a ∷ [])) cs
+any_names : (a : ℕ) (cs : List Sided) → not (list_any (has_name a) (map record_of cs)) ≡ every (avoids (a ∷ [])) cs
 any_names a [] = refl
-any_names a (s ∷ cs) = not_or (has_name a (record_of s)) (any (has_name a) (map record_of cs)) ∙ ap₂ ◌&&◌ (name_claim a s) (any_names a cs)
+any_names a (s ∷ cs) = not_or (has_name a (record_of s)) (list_any (has_name a) (map record_of cs)) ∙ ap₂ ◌&&◌ (name_claim a s) (any_names a cs)
 
 -- a test that is two tests
 module _ {A : Type 0} (f g h : A → Bool) (e : (x : A) → h x ≡ (f x && g x)) where
@@ -97,7 +100,7 @@ every_true : {A : Type 0} (f : A → Bool) → ((x : A) → f x ≡ true) → (l
 every_true f e [] = refl
 every_true f e (x ∷ l) = rw (e x, every_true f e l)
 
-news_record : (ns : List ℕ) (cs : List Sided) → every (λ a. not (any (has_name a) (map record_of cs))) ns ≡ every (avoids ns) cs
+news_record : (ns : List ℕ) (cs : List Sided) → every (λ a. not (list_any (has_name a) (map record_of cs))) ns ≡ every (avoids ns) cs
 news_record [] cs = sym (every_true (avoids []) (λ s. every_true (λ a. not (elem a [])) (λ a. refl) (names (claim s))) cs)
 news_record (a ∷ ns) cs =
     ap₂ ◌&&◌ (any_names a cs) (news_record ns cs)
@@ -133,9 +136,9 @@ rule_rows p g w =
 
 -- the premises that a turn leaves of the records l: none, one, or two, of which the first is worked on and the second waits under it
 pub data Leaves (l : List Record) (t : Turn) : List Goal → Type 0 where
-  none : t.opens ≡ 0 → Leaves l t []
-  one : (h : Goal) → t.opens ≡ 1 → premise_at 0 t l ≡ map record_of h → Leaves l t (h ∷ [])
-  two : (h k : Goal) → t.opens ≡ 2 → premise_at 0 t l ≡ map record_of h → premise_at 1 t l ≡ map record_of k → Leaves l t (h ∷ k ∷ [])
+  none : length (added t.leaves) ≡ 0 → Leaves l t []
+  one : (h : Goal) → length (added t.leaves) ≡ 1 → premise_at 0 t l ≡ map record_of h → Leaves l t (h ∷ [])
+  two : (h k : Goal) → length (added t.leaves) ≡ 2 → premise_at 0 t l ≡ map record_of h → premise_at 1 t l ≡ map record_of k → Leaves l t (h ∷ k ∷ [])
 
 -- the rows of a step with a goal open: its count and its ranges, then those of its rule
 pub step_rows_lem : (T : Table) (n : ℕ) (g : Goal) (gs : List Goal) (s : Step)
@@ -154,7 +157,7 @@ module _ (u : Ruling) (l : List Record) (w : ℕ) (e : refusal (record_rows u l 
   unfolding record_rows
   past_8 =
       let e6 = cond_zero u.asked _ 6 six e in
-      let e7 = cond_zero (every (λ c. any (same_record c) l) u.needed) _ 7 seven e6.1 in
+      let e7 = cond_zero (every (λ c. list_any (same_record c) l) u.needed) _ 7 seven e6.1 in
       (cond_zero _ _ 8 eight e7.1).1
     where
       six : ◌≡◌ {A = ℕ} 6 0 → ⊥
@@ -182,7 +185,7 @@ module _ (u : Ruling) (l : List Record) (w : ℕ) (e : refusal (record_rows u l 
       eleven h = omega arith
 
 -- the premises of a turn, by their count
-leaves_of : (l : List Record) (t : Turn) (ps : List Goal) → t.opens ≡ length ps → length ps ≤ 2
+leaves_of : (l : List Record) (t : Turn) (ps : List Goal) → length (added t.leaves) ≡ length ps → length ps ≤ 2
     → ((i : ℕ) → i < length ps → premise_at i t l ≡ map record_of (get_or ps i [])) → Leaves l t ps
 leaves_of l t [] e few f = none e
 leaves_of l t (h ∷ []) e few f = one h e (f 0 (omega arith))
@@ -202,19 +205,19 @@ module _ (q : Plan) (cs : List Sided) where
   rows_shown w =
       rw (needs_record cs q.needs, news_record q.news cs, keeping_record q.drops q.needs cs, small_record kept q.premises, opens_shown)
 
-  module _ (b : List Row) (l : List Record) (sl : l ≡ map record_of cs) (w : ℕ) (t : Turn) (r : Turns b (ruling q) l w t) where
-    pub number_shown : t.number ≡ refusal (b ++ rule_rows q cs w)
-    number_shown = r.number ∙ ap (λ m. refusal (b ++ record_rows (ruling q) m w)) sl ∙ ap (λ rs. refusal (b ++ rs)) (rows_shown w)
+  module _ (b : List Row) (l : List Record) (sl : l ≡ map record_of cs) (w : ℕ) where
+    pub number_shown : (r : Result Turn Refusal) → Turns b (ruling q) l w r → row_number r ≡ refusal (b ++ rule_rows q cs w)
+    number_shown r s = s.number ∙ ap (λ m. refusal (b ++ record_rows (ruling q) m w)) sl ∙ ap (λ rs. refusal (b ++ rs)) (rows_shown w)
 
     -- where it passes
-    module _ (z : t.number ≡ 0) (opens : t.opens ≡ length (added t.leaves t.first t.second)) (few : t.opens ≤ 2) where
-      count : t.opens ≡ length (premises q cs)
-      count = opens ∙ ap length (r.leaves z).1 ∙ opens_shown
+    module _ (t : Turn) (s : Turns b (ruling q) l w (Ok t)) where
+      count : length (added t.leaves) ≡ length (premises q cs)
+      count = ap length s.leaves.1 ∙ opens_shown
 
       premise_shown : (i : ℕ) → i < length (premises q cs) → premise_at i t l ≡ map record_of (get_or (premises q cs) i [])
       premise_shown i h =
-          ap₂ (λ k m. k ++ get_or m i []) ((r.leaves z).0 ∙ ap (kept_by (ruling q)) sl ∙ keeping_record q.drops q.needs cs) (r.leaves z).1
+          ap₂ (λ k m. k ++ get_or m i []) (s.leaves.0 ∙ ap (kept_by (ruling q)) sl ∙ keeping_record q.drops q.needs cs) s.leaves.1
           ∙ premise_record kept q.premises i (rw (length-map q.premises (λ l. kept ++ l)) at h)
 
       pub leaves_shown : Leaves l t (premises q cs)
-      leaves_shown = leaves_of l t (premises q cs) count (omega (arith, count)) premise_shown
+      leaves_shown = leaves_of l t (premises q cs) count (omega (arith, count, few_open t.leaves)) premise_shown

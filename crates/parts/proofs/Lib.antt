@@ -1,6 +1,6 @@
 -- `FieldLaws`: the fields of a line and their kinds. `Small`: its numbers fit a byte. `Said`: what the words of a part say. `Judging`: one line of the
 -- judge at a time. `Through`: walks over lines that pass. `Stops`: what ends the table and the claims. `Determined`: the text fixes both.
--- `TableLaws`: the table in its columns.
+-- `TableLaws`: a line of the table, and its rows.
 pub mod FieldLaws
 pub mod Small
 pub mod Said

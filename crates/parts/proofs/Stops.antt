@@ -21,11 +21,11 @@ use Rattle.alc.specs.Rows.{refusal}
 use Rattle.alc.specs.Table.{Table}
 use Rattle.alc.specs.Claims.{Sided}
 use Rattle.alc.specs.Dossier.{Said, concept, claim, proof, model, step, size, fact, unread, saying}
-use Rattle.alc.specs.Shown.{table_of}
-use Rattle.alc.proofs.ShownLaws.{table-length}
 use Rattle.alc.specs.Verdict.{State, refused, place, begin, rows, after, ending, judge}
-use Rattle.parts.specs.declared.Listed.{Listed}
-use Rattle.parts.specs.Parts.{in_table, in_claims, in_steps, at_start, Through, none, line, TableEnd, ClaimsEnd, ClaimsLead, TableRead}
+use Rattle.parts.specs.declared.Section.{Section}
+use Rattle.parts.specs.declared.Section.TheVariants.{Proof, Model}
+use Rattle.std.specs.Prelude.{Result, Ok, Err}
+use Rattle.parts.specs.Parts.{in_table, in_claims, in_steps, at_start, Through, none, line, TableEnd, ClaimsEnd, ClaimsLead, Listing}
 use Rattle.parts.specs.Parts
 use Rattle.parts.proofs.Judging.{next, judge_end, judge_bad, judge_refused, unrolled}
 use Rattle.parts.proofs.Through.{Stuck, found_same, stage, through_then, through_judge, through_bounds, through_either, through_behind, both_last, apart}
@@ -177,73 +177,47 @@ claims_halts text T cs n at k x e Parts.over = record {
 }
 
 -- BEHIND THE TABLE
-module _ {text ks₀ xs₀ ys₀ ks xs ys : List ℕ} {r : Listed} (t : TableRead text ks₀ xs₀ ys₀ ks xs ys r) where
-  abbrev T : Table
-  T = table_of ks xs ys r.count
+module _ {text : List ℕ} {T : Table} {at k : ℕ} (t : Listing text T at k) where
+  pub table_refused : (k ≡ 0 → ⊥) → judge 0 begin (lines_of text) ≡ refused k (suc (length T))
+  table_refused h = through_judge t.read ∙ (table_halts text T (length T) at k _ refl t.ends h).judged
 
-  pub table_refused : (r.number ≡ 0 → ⊥) → judge 0 begin (lines_of text) ≡ refused r.number (suc r.count)
-  table_refused h = through_judge t.read ∙ (table_halts text T r.count r.at r.number _ refl t.ends h).judged
-
-  -- the table has as many lines as were read
-  long : r.count ≡ length T
-  long = sym (table-length ks xs ys r.count)
-
-  pub table_left : r.number ≡ 0 → judge 0 begin (lines_of text) ≡ judge (length T) (in_claims T []) (lines_of (drop r.at text))
-  table_left h =
-      through_judge t.read ∙ same_judge text T r.count r.at r.number _ refl t.ends h
-      ∙ ap (λ n. judge n (in_claims T []) (lines_of (drop r.at text))) long
+  pub table_left : k ≡ 0 → judge 0 begin (lines_of text) ≡ judge (length T) (in_claims T []) (lines_of (drop at text))
+  table_left h = through_judge t.read ∙ same_judge text T (length T) at k _ refl t.ends h
 
   -- a walk that leaves the claims goes on where that of the table ends; and one that leaves them leads there, if the table is not refused
-  pub table_then : {m c : ℕ} {F : State} → Through text (length T) r.at (in_claims T []) m c F → 2 ≤ stage F → Through text 0 0 begin m c F
-  table_then {m} {c} {F} v h =
-      through_then t.read (from_table T (subst (λ n. Through text n r.at (in_claims T []) m c F) (sym long) v) refl h)
+  pub table_then : {m c : ℕ} {F : State} → Through text (length T) at (in_claims T []) m c F → 2 ≤ stage F → Through text 0 0 begin m c F
+  table_then v h = through_then t.read (from_table T v refl h)
 
-  pub table_behind : r.number ≡ 0 → {m c : ℕ} {F : State} → Through text 0 0 begin m c F → 2 ≤ stage F
-      → Through text (length T) r.at (in_claims T []) m c F
-  table_behind h {m} {c} {F} v f = subst (λ n. Through text n r.at (in_claims T []) m c F) long (go (through_either t.read v))
+  pub table_behind : k ≡ 0 → {m c : ℕ} {F : State} → Through text 0 0 begin m c F → 2 ≤ stage F → Through text (length T) at (in_claims T []) m c F
+  table_behind h {m} {c} {F} v f = go (through_either t.read v)
     where
-      go : Through text r.count r.at (in_table T) m c F ⊎ Through text m c F r.count r.at (in_table T)
-          → Through text r.count r.at (in_claims T []) m c F
-      go (inl u) = from_claims T u refl f (subst (TableEnd T (read_at text r.at at_table)) h t.ends)
+      go : Through text (length T) at (in_table T) m c F ⊎ Through text m c F (length T) at (in_table T)
+          → Through text (length T) at (in_claims T []) m c F
+      go (inl u) = from_claims T u refl f (subst (TableEnd T (read_at text at at_table)) h t.ends)
       go (inr u) = absurd (omega (arith, through_behind u f))
 
-  pub table_apart : (r.number ≡ 0 → ⊥) → {m c : ℕ} {F : State} → Through text 0 0 begin m c F → stage F ≡ 2 → ⊥
-  table_apart h v = apart t.read v (table_halts text T r.count r.at r.number _ refl t.ends h).stuck (omega arith)
+  pub table_apart : (k ≡ 0 → ⊥) → {m c : ℕ} {F : State} → Through text 0 0 begin m c F → stage F ≡ 2 → ⊥
+  table_apart h v = apart t.read v (table_halts text T (length T) at k _ refl t.ends h).stuck (omega arith)
 
 -- BEHIND THE CLAIMS
 module _ {text : List ℕ} {T : Table} {begun : ℕ} {cs : List Sided} {lines at : ℕ} where
-  pub claims_bounds : {k t : ℕ} → ClaimsLead text T begun cs lines at k t → (begun ≤ length text) × (length T ≤ begun) → (at ≤ length text) × (lines ≤ at)
+  pub claims_bounds : {e : Result Section ℕ} → ClaimsLead text T begun cs lines at e → (begun ≤ length text) × (length T ≤ begun) → (at ≤ length text) × (lines ≤ at)
   claims_bounds (Parts.proof v) h = through_bounds v h
   claims_bounds (Parts.model v) h = through_bounds v h
   claims_bounds (Parts.refused v d) h = through_bounds v h
 
-  pub claims_refused : {k t : ℕ} → ClaimsLead text T begun cs lines at k t → (k ≡ 0 → ⊥)
-      → judge (length T) (in_claims T []) (lines_of (drop begun text)) ≡ refused k (suc lines)
-  claims_refused (Parts.proof v) h = absurd (h refl)
-  claims_refused (Parts.model v) h = absurd (h refl)
-  claims_refused {k} (Parts.refused v d) h =
-      through_judge v ∙ (claims_halts text T cs lines at k _ refl d).judged
+  pub claims_refused : {k : ℕ} → ClaimsLead text T begun cs lines at (Err k) → judge (length T) (in_claims T []) (lines_of (drop begun text)) ≡ refused k (suc lines)
+  claims_refused {k} (Parts.refused v d) = through_judge v ∙ (claims_halts text T cs lines at k _ refl d).judged
 
-  pub claims_proof : {k t : ℕ} → ClaimsLead text T begun cs lines at k t → t ≡ 1
-      → Through text (length T) begun (in_claims T []) lines at (in_steps T cs 0 (cs ∷ []))
-  claims_proof (Parts.proof v) e = v
-  claims_proof (Parts.model v) e = absurd (omega arith)
-  claims_proof (Parts.refused v d) e = absurd (omega arith)
+  pub claims_proof : ClaimsLead text T begun cs lines at (Ok Proof) → Through text (length T) begun (in_claims T []) lines at (in_steps T cs 0 (cs ∷ []))
+  claims_proof (Parts.proof v) = v
 
-  pub claims_model : {k t : ℕ} → ClaimsLead text T begun cs lines at k t → k ≡ 0 → (t ≡ 1 → ⊥)
-      → Through text (length T) begun (in_claims T []) lines at (at_start T cs)
-  claims_model (Parts.proof v) e h = absurd (h refl)
-  claims_model (Parts.model v) e h = v
-  claims_model {k} (Parts.refused v d) e h = absurd (positive _ k e d)
-    where
-      positive : (x : Next) (j : ℕ) → j ≡ 0 → ClaimsEnd T cs x j → ⊥
-      positive x j z Parts.wrong = omega arith
-      positive x j z (Parts.failed q) = omega arith
-      positive x j z Parts.over = omega arith
+  pub claims_model : ClaimsLead text T begun cs lines at (Ok Model) → Through text (length T) begun (in_claims T []) lines at (at_start T cs)
+  claims_model (Parts.model v) = v
 
   -- no walk leads to a first step but behind `proof`
-  pub claims_apart : {k t : ℕ} → ClaimsLead text T begun cs lines at k t → (k ≡ 0 → t ≡ 1 → ⊥)
+  pub claims_apart : {e : Result Section ℕ} → ClaimsLead text T begun cs lines at e → (e ≡ Ok Proof → ⊥)
       → {U : Table} {ds : List Sided} {m c : ℕ} → Through text (length T) begun (in_claims T []) m c (in_steps U ds 0 (ds ∷ [])) → ⊥
-  claims_apart (Parts.proof v) h w = h refl refl
+  claims_apart (Parts.proof v) h w = h refl
   claims_apart (Parts.model v) h w = let z : ◌≡◌ {A = ℕ} 3 2 = ap (λ (Z : State). place Z.part) (both_last v w refl refl).2 in omega arith
-  claims_apart {k} (Parts.refused v d) h w = apart v w (claims_halts text T cs lines at k _ refl d).stuck (omega arith) refl
+  claims_apart (Parts.refused {k} v d) h w = apart v w (claims_halts text T cs lines at k _ refl d).stuck (omega arith) refl

@@ -1,12 +1,9 @@
--- The table in its columns: an entry stands in it exactly if its numbers stand in a row, and a line of the text is the entry that is
--- stored. Assumes nothing.
-use Prim.Native.Nat.{ℕ, zero, suc, ◌+◌, ◌≤◌, ◌<◌, ◌%◌}
+-- A line of the text as a line of the table, and the rows that it has to pass. Assumes nothing.
+use Prim.Native.Nat.{ℕ, zero, suc, ◌≤◌, ◌<◌, ◌%◌}
 use native.Mathlib.Omega.{arith}
-use native.Mathlib.Numerals.{add-one}
-use mathlib.Core.Bool.{true, false, ◌&&◌, ◌||◌, and_assoc, or_comm}
-use mathlib.Core.List.{List}
-use mathlib.Core.Path.{◌≡◌, refl, sym, ap, ap₂, ◌∙◌}
-use lib.Dec.{eqb, ltb}
+use mathlib.Core.Bool.{true, false}
+use mathlib.Core.Path.{◌≡◌, refl, sym, ap₂, ◌∙◌}
+use lib.Dec.{ltb}
 use lib.ListN.{length, get_or}
 use Rattle.lines.specs.Text.{words, row_of}
 use Rattle.lines.specs.Walk.{claims_from}
@@ -15,24 +12,12 @@ use Rattle.lines.proofs.Told.{Told}
 use Rattle.alc.specs.Lists.{every}
 use Rattle.alc.specs.Rows.{refusal}
 use Rattle.alc.specs.Ranges.{in_range}
-use Rattle.alc.specs.Table.{Entry, Table, entry_of, same_entry, stands}
+use Rattle.alc.specs.Table.{Table, entry_of, stands}
 use Rattle.alc.specs.Dossier.{concept, unread, sayings, saying}
-use Rattle.alc.specs.Shown.{kind_count, kind_at, table_of}
-use Rattle.alc.proofs.ShownLaws.{line_at}
-use Rattle.alc.proofs.ListFacts.{any_more}
-use Rattle.goals.proofs.RecordLaws.{kind_same}
-use Rattle.goals.proofs.Steps.{eqb_turn}
+use Rattle.alc.specs.Shown.{kind_at}
 use Rattle.parts.specs.Fields.{said_fields}
 use Rattle.parts.specs.Parts.{entry_in, entry_rows}
 use Rattle.parts.proofs.Small.{Small}
-
-pub entry_same : (k x y j u v : ℕ) → k < kind_count → j < kind_count → (eqb k j && (eqb x u && eqb y v)) ≡ same_entry (entry_of (kind_at k) x y) (entry_of (kind_at j) u v)
-entry_same k x y j u v h l = sym (and_assoc (eqb k j) (eqb x u) (eqb y v)) ∙ ap (λ b. (b && eqb x u) && eqb y v) (eqb_turn k j ∙ kind_same j k l h)
-
--- a line more: an entry stands in the table if it is that line or stands above it
-pub stands_more : (ks xs ys : List ℕ) (n : ℕ) (e : Entry) → stands (table_of ks xs ys (n + 1)) e ≡ (same_entry e (line_at ks xs ys n) || stands (table_of ks xs ys n) e)
-unfolding table_of
-stands_more ks xs ys n e = rw (add-one n) (any_more (same_entry e) (table_of ks xs ys n) (line_at ks xs ys n) ∙ or_comm (stands (table_of ks xs ys n) e) (same_entry e (line_at ks xs ys n)))
 
 -- a line of the text as a line of the table: what it does not say is 0
 pub said_entry : (s x y z w : ℕ) → w < claims_from → ((row_of w).count ≤ 0 → x ≡ 0) → ((row_of w).count ≤ 1 → y ≡ 0) → get_or (sayings s x y z) w unread ≡ concept (entry_of (kind_at w) x y)

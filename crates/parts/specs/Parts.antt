@@ -1,23 +1,26 @@
 -- What the loops over the parts of a dossier hold and come to, said by the definitions of `alc`.
 -- Assumes nothing.
-use Rattle.std.specs.Prelude.{ℕ, suc, ◌-◌, ◌≤◌, ◌<◌, ◌%◌, true, not, List, [], ◌∷◌, map, ◌≡◌, ltb, length, get_or}
+use Rattle.std.specs.Prelude.{ℕ, suc, ◌+◌, ◌-◌, ◌≤◌, ◌<◌, ◌%◌, true, not, cond, List, [], ◌∷◌, map, ◌≡◌, eqb, ltb, length, get_or, Result, Ok, Err}
 use Rattle.lines.specs.Text.{at_table, at_claims}
-use Rattle.lines.specs.Walk.{claims_from, read_at}
+use Rattle.lines.specs.Walk.{claims_from, sections_from, read_at}
 use Rattle.lines.specs.declared.Line.{Line}
 use Rattle.lines.specs.declared.Next.{Next}
 use Rattle.lines.specs.declared.Next.TheVariants.{Found, Bad, End}
 use Rattle.alc.specs.Lists.{All, every}
 use Rattle.alc.specs.Rows.{Row, row, refusal}
 use Rattle.alc.specs.Ranges.{in_range}
-use Rattle.alc.specs.Table.{Table, Entry, entry_of, stands, entry_fields}
+use Rattle.alc.specs.Table.{Table, Entry, entry_of, stands}
 use Rattle.alc.specs.Claims.{Claim, is, Sided, Goal, claim_fields}
 use Rattle.alc.specs.Claims as Claims
 use Rattle.alc.specs.Dossier as Dossier
 use Rattle.alc.specs.Dossier.{sided, saying}
-use Rattle.alc.specs.Shown.{kind_count, kind_at, table_of, Shows}
+use Rattle.alc.specs.Shown.{kind_at, Shows, number_of}
+use Rattle.alc.specs.declared.Refused.{Refused}
 use Rattle.alc.specs.Verdict.{State, table, claims, steps, start, place, begin, rows, after}
 use Rattle.parts.specs.declared.Listed.{Listed}
 use Rattle.parts.specs.declared.Heading.{Heading}
+use Rattle.parts.specs.declared.Section.{Section}
+use Rattle.parts.specs.declared.Section.TheVariants.{Proof, Model}
 use Rattle.parts.specs.Fields.{said_fields}
 
 -- the line of the table that a line of the text is
@@ -36,12 +39,6 @@ in_table T = record { part = table; table = T; claims = []; steps = 0; goals = [
 abbrev pub in_claims : Table → List Sided → State
 in_claims T cs = record { part = claims; table = T; claims = cs; steps = 0; goals = []; size = 0; facts = [] }
 
--- the columns hold n lines, each of a kind and with its fields in the range of its own number
-pub record Columns (ks xs ys : List ℕ) (n : ℕ) : Type 0 where
-  pub few : n ≤ 256
-  pub kinds : (i : ℕ) → i < n → get_or ks i 0 < kind_count
-  pub ranges : (i : ℕ) → i < n → every (in_range i 0) (entry_fields (entry_of (kind_at (get_or ks i 0)) (get_or xs i 0) (get_or ys i 0))) ≡ true
-
 -- the lines from a position on pass all their rows, one after the other. Before them n lines had been read, up to the position `at`, and said S;
 -- behind them m lines have been read, up to the position `to`, and say E
 pub data Through (text : List ℕ) : ℕ → ℕ → State → ℕ → ℕ → State → Type 0 where
@@ -57,21 +54,22 @@ pub data TableEnd (T : Table) : Next → ℕ → Type 0 where
   other : {l : Line} {next : ℕ} → claims_from ≤ l.word → TableEnd T (Found l next) 0
   over : TableEnd T End 0
 
--- three columns hold at place i what three others do
-abbrev pub SameAt : ℕ → List ℕ → List ℕ → List ℕ → List ℕ → List ℕ → List ℕ → Type 0
-SameAt i ks xs ys us vs ws = (get_or ks i 0 ≡ get_or us i 0) × (get_or xs i 0 ≡ get_or vs i 0) × (get_or ys i 0 ≡ get_or ws i 0)
+-- so many lines of the text are the table T, up to a position, and what follows them has the number k
+pub record Listing (text : List ℕ) (T : Table) (at k : ℕ) : Type 0 where
+  pub read : Through text 0 0 begin (length T) at (in_table T)
+  pub ends : TableEnd T (read_at text at at_table) k
 
--- from place n on the columns hold what they held before
-abbrev pub Kept : ℕ → List ℕ → List ℕ → List ℕ → List ℕ → List ℕ → List ℕ → Type 0
-Kept n ks₀ xs₀ ys₀ ks xs ys = (i : ℕ) → n ≤ i → SameAt i ks xs ys ks₀ xs₀ ys₀
+-- the line behind a table is refused, with its number and line
+pub record TableRefused (text : List ℕ) (e : Refused) : Type 0 where
+  pub table : Table
+  pub at : ℕ
+  pub listing : Listing text table at (number_of e.refusal)
+  pub line : e.line ≡ length table + 1
 
--- what the reading of the table comes to, with what the columns held before: so many lines of the text are the columns' table, behind it nothing has
--- changed, and what follows the lines has this number
-pub record TableRead (text ks₀ xs₀ ys₀ ks xs ys : List ℕ) (r : Listed) : Type 0 where
-  pub columns : Columns ks xs ys r.count
-  pub kept : Kept r.count ks₀ xs₀ ys₀ ks xs ys
-  pub read : Through text 0 0 begin r.count r.at (in_table (table_of ks xs ys r.count))
-  pub ends : TableEnd (table_of ks xs ys r.count) (read_at text r.at at_table) r.number
+-- what the reading of the table comes to: the table, with what ends it, or a refusal
+abbrev pub TableRead : List ℕ → Result Listed Refused → Type 0
+TableRead text (Ok r) = Listing text r.table r.at 0
+TableRead text (Err e) = TableRefused text e
 
 -- the claim that a word says with these numbers
 abbrev pub claim_by : ℕ → ℕ → ℕ → ℕ → Claim
@@ -103,16 +101,34 @@ pub data ClaimsEnd (T : Table) (cs : List Sided) : Next → ℕ → Type 0 where
   failed : {l : Line} {next k : ℕ} → refusal (rows (in_claims T cs) (saying l)) ≡ suc k → ClaimsEnd T cs (Found l next) (suc k)
   over : ClaimsEnd T cs End 12
 
--- the claims cs from a position on, behind a table T, lead to `proof`, which has the number 1, or to `model`, which has 2; or they are refused, by number
-pub data ClaimsLead (text : List ℕ) (T : Table) (begun : ℕ) (cs : List Sided) (lines at : ℕ) : ℕ → ℕ → Type 0 where
-  proof : Through text (length T) begun (in_claims T []) lines at (in_steps T cs 0 (cs ∷ [])) → ClaimsLead text T begun cs lines at 0 1
-  model : Through text (length T) begun (in_claims T []) lines at (at_start T cs) → ClaimsLead text T begun cs lines at 0 2
-  refused : {k : ℕ} → Through text (length T) begun (in_claims T []) lines at (in_claims T cs) → ClaimsEnd T cs (read_at text at at_claims) k → ClaimsLead text T begun cs lines at k 0
+-- what the word of a number ends the claims with: `proof`, or else `model`
+abbrev pub section_at : ℕ → Section
+section_at w = cond (eqb w sections_from) Proof Model
 
--- what the reading of the claims comes to, from a position on behind a table T
-pub record ClaimsRead (text : List ℕ) (T : Table) (begun : ℕ) (r : Heading) : Type 0 where
+-- the claims cs from a position on, behind a table T, lead to `proof` or to `model`; or the line behind them is refused, by number
+pub data ClaimsLead (text : List ℕ) (T : Table) (begun : ℕ) (cs : List Sided) (lines at : ℕ) : Result Section ℕ → Type 0 where
+  proof : Through text (length T) begun (in_claims T []) lines at (in_steps T cs 0 (cs ∷ [])) → ClaimsLead text T begun cs lines at (Ok Proof)
+  model : Through text (length T) begun (in_claims T []) lines at (at_start T cs) → ClaimsLead text T begun cs lines at (Ok Model)
+  refused : {k : ℕ} → Through text (length T) begun (in_claims T []) lines at (in_claims T cs) → ClaimsEnd T cs (read_at text at at_claims) k
+      → ClaimsLead text T begun cs lines at (Err k)
+
+-- the claims are read, from a position on behind a table T
+pub record ClaimsHeard (text : List ℕ) (T : Table) (begun : ℕ) (r : Heading) : Type 0 where
   pub cs : List Sided
   pub shown : Shows r.claims cs
   pub few : r.claims.count ≤ 64
   pub ranges : All (λ s. every (in_range (length T) 0) (claim_fields (Claims.claim s)) ≡ true) cs
-  pub leads : ClaimsLead text T begun cs r.lines r.at r.number r.section
+  pub leads : ClaimsLead text T begun cs r.lines r.at (Ok r.section)
+
+-- the line behind some claims is refused, with its number and line
+pub record ClaimsRefused (text : List ℕ) (T : Table) (begun : ℕ) (e : Refused) : Type 0 where
+  pub cs : List Sided
+  pub lines : ℕ
+  pub at : ℕ
+  pub leads : ClaimsLead text T begun cs lines at (Err (number_of e.refusal))
+  pub line : e.line ≡ lines + 1
+
+-- what the reading of the claims comes to, from a position on behind a table T: the claims, with what ends them, or a refusal
+abbrev pub ClaimsRead : List ℕ → Table → ℕ → Result Heading Refused → Type 0
+ClaimsRead text T begun (Ok r) = ClaimsHeard text T begun r
+ClaimsRead text T begun (Err e) = ClaimsRefused text T begun e

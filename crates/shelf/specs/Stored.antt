@@ -1,6 +1,6 @@
 -- Goals in the room, as lists: which records the room has once a goal is stored, and which goal is fetched from it.
 -- Assumes nothing.
-use Rattle.std.specs.Prelude.{ℕ, zero, suc, ◌+◌, List, set, get_or, replicate}
+use Rattle.std.specs.Prelude.{ℕ, ◌+◌, List, ◌++◌, take, drop, replicate}
 use Rattle.alc.specs.Shown.{blank}
 use Rattle.alc.specs.declared.Claim.{Claim}
 use Rattle.alc.specs.declared.Goal.{Goal}
@@ -9,18 +9,13 @@ use Rattle.alc.specs.declared.Goal.{Goal}
 unfoldable pub blanks : List Claim
 blanks = replicate 64 blank
 
--- the run t with n records of the run l, from base on, in its places from a on
-unfoldable pub copied : List Claim → ℕ → List Claim → ℕ → ℕ → List Claim
-copied t a l base zero = t
-copied t a l base (suc n) = set (copied t a l base n) (a + n) (get_or l (base + n) blank)
-
 -- the first n of the records cs are stored in the room l, from base on
 abbrev pub stored : List Claim → ℕ → List Claim → ℕ → List Claim
-stored l base cs n = copied l base cs 0 n
+stored l base cs n = take base l ++ take n cs ++ drop (base + n) l
 
 -- sixty-four records, of which the first n are those of the room l from base on
 abbrev pub fetched : List Claim → ℕ → ℕ → List Claim
-fetched l base n = copied blanks 0 l base n
+fetched l base n = take n (drop base l) ++ drop n blanks
 
 -- the goal of the first n of these records
 abbrev pub goal_of : List Claim → ℕ → Goal

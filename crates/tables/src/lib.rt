@@ -1,138 +1,97 @@
-// The table of a dossier, read line by line into three columns. Words and numbers come from `reading`, and no byte is seen here.
+// The table of a dossier, read line by line. Words and numbers come from `reading`, and no byte is seen here.
 #![tactic(auto)]
 
-ghost use Rattle.std.specs.Prelude.{◌≡◌, ℕ, ◌<◌, ◌≤◌, ◌%◌, length, get_or, set, ◌&&◌, eqb};
+ghost use Rattle.std.specs.Prelude.{◌≡◌, ◌<◌, ◌%◌, IfOk};
 ghost use Rattle.alc.specs.Rows.{refusal};
-ghost use Rattle.alc.specs.Table.{entry_of, stands as stands_in};
+ghost use Rattle.alc.specs.Entries.{kind_of, shown};
+ghost use Rattle.alc.specs.Shown.{kind_at, row_number};
 ghost use Rattle.lines.specs.Walk.{claims_from};
-ghost use Rattle.alc.specs.Shown.{kind_count, kind_at, table_of};
-ghost use Rattle.parts.specs.Parts.{entry_rows, TableRead};
+ghost use Rattle.parts.specs.Parts.{entry_in, entry_rows, TableRead};
 
-use goals::Entry;
+use alc::{Entry, Kind, Refusal, Refused, Table};
 use lines::{IN_TABLE, Line, Next};
 use parts::{Listed, ranged};
 
+// The kind of a line of the table, by its word.
+fn kind(word: u8) -> Kind
+    requires { word < claims_from }
+    ensures { kind_of result ≡ kind_at word }
+{
+    match word {
+        lines::TOP => Kind::Top,
+        lines::BOT => Kind::Bot,
+        lines::ATOM => Kind::Atom,
+        lines::NOT => Kind::Not,
+        lines::AND => Kind::And,
+        lines::OR => Kind::Or,
+        lines::SOME => Kind::Some,
+        _ => Kind::All,
+    }
+}
+
 // The line of the table that a line of the text is.
 fn made_entry(l: Line) -> Entry
-    ensures { (result.kind ≡ l.word) × (result.x ≡ l.n0 % 256) × (result.y ≡ l.n1 % 256) }
+    requires { l.word < claims_from }
+    ensures { shown result ≡ entry_in l }
 {
     Entry {
-        kind: l.word,
+        kind: kind(l.word),
         x: (l.n0 % 256) as u8,
         y: (l.n1 % 256) as u8,
     }
 }
 
-// Whether the entry stands among the first n lines of the table.
-fn repeated(kinds: &[u8; 256], firsts: &[u8; 256], seconds: &[u8; 256], n: usize, e: Entry) -> bool
-    requires { (n ≤ 256) × (e.kind < kind_count) × ((i : ℕ) → i < n → get_or kinds.now i 0 < kind_count) }
-    ensures { result ≡ stands_in (table_of kinds.now firsts.now seconds.now n) (entry_of (kind_at e.kind) e.x e.y) }
+// The line of the table that a line of the text is, behind those of the table, or the first row that it does not pass.
+fn next_entry(table: &Table, l: Line) -> Result<Entry, Refusal>
+    requires { l.word < claims_from }
+    ensures row { row_number result ≡ refusal (entry_rows table.now l) }
+    ensures entry { IfOk result (λ e. shown e ≡ entry_in l) }
 {
-    // No early end: so the compiler compares sixteen lines at a time.
-    let mut times: u16 = 0;
-    let mut i: usize = 0;
-    while i < n {
-        if matches(kinds[i], firsts[i], seconds[i], e) {
-            times += 1;
-        }
-        i += 1;
-    }
-    times > 0
-}
-
-// Whether the entry is of this kind and has these numbers.
-fn matches(kind: u8, x: u8, y: u8, e: Entry) -> bool
-    ensures { result ≡ (eqb e.kind kind && (eqb e.x x && eqb e.y y)) }
-{
-    if e.kind != kind {
-        return false;
-    }
-    if e.x != x {
-        return false;
-    }
-    e.y == y
-}
-
-// The number of the first row that a line of the table does not pass, behind n others, or 0.
-fn entry_refusal(
-    kinds: &[u8; 256],
-    firsts: &[u8; 256],
-    seconds: &[u8; 256],
-    n: usize,
-    l: Line,
-) -> u8
-    requires { (n ≤ 256) × (l.word < claims_from) × ((i : ℕ) → i < n → get_or kinds.now i 0 < kind_count) }
-    ensures { result ≡ refusal (entry_rows (table_of kinds.now firsts.now seconds.now n) l) }
-{
+    let n = table.len();
     if n >= 256 {
-        return 5;
+        return Err(Refusal::TooMany);
     }
     if !ranged(l, n, 0) {
-        return 3;
+        return Err(Refusal::OutOfRange);
     }
-    if repeated(kinds, firsts, seconds, n, made_entry(l)) {
-        return 4;
+    let entry = made_entry(l);
+    if table.has(entry) {
+        return Err(Refusal::Repeated);
     }
-    0
+    Ok(entry)
 }
 
-// Stores a number in a column of the table.
-fn put(column: &mut [u8], i: usize, x: u8)
-    requires { (length column.old ≡ 256) × (i < 256) }
-    ensures { (column.new ≡ set column.old i x) × (length column.old ≡ 256) }
+// Reads the table, up to the first line that is not of it.
+pub fn read_table(text: &[u8]) -> Result<Listed, Refused>
+    ensures { TableRead text.now result }
 {
-    column[i] = x;
-}
-
-// Reads the table into its columns, up to the first line that is not of it. Behind its lines the columns stay as they are.
-pub fn read_table(
-    text: &[u8],
-    kinds: &mut [u8; 256],
-    firsts: &mut [u8; 256],
-    seconds: &mut [u8; 256],
-) -> Listed
-    ensures { TableRead text.now kinds.old firsts.old seconds.old kinds.new firsts.new seconds.new result }
-{
+    let mut table = Table::new();
     let mut at = 0;
-    let mut n: usize = 0;
     loop {
+        let line = table.len() + 1;
         match reading::read(text, at, IN_TABLE) {
             Next::Found(l, next) => {
                 if l.word >= lines::IS {
-                    return Listed {
-                        number: 0,
-                        at: at,
-                        count: n,
-                    };
+                    return Ok(Listed { table, at });
                 }
-                let k = entry_refusal(kinds, firsts, seconds, n, l);
-                if k != 0 {
-                    return Listed {
-                        number: k,
-                        at: at,
-                        count: n,
-                    };
+                match next_entry(&table, l) {
+                    Ok(entry) => {
+                        table.push(entry);
+                        at = next;
+                    }
+                    Err(refusal) => {
+                        return Err(Refused { refusal, line });
+                    }
                 }
-                let e = made_entry(l);
-                put(kinds, n, e.kind);
-                put(firsts, n, e.x);
-                put(seconds, n, e.y);
-                n += 1;
-                at = next;
             }
             Next::Bad => {
-                return Listed {
-                    number: 2,
-                    at: at,
-                    count: n,
-                };
+                return Err(Refused {
+                    refusal: Refusal::Malformed,
+                    line,
+                });
             }
             Next::End => {
-                return Listed {
-                    number: 0,
-                    at: at,
-                    count: n,
-                };
+                return Ok(Listed { table, at });
             }
         }
     }

@@ -1,8 +1,8 @@
 -- `claims::read_claims` meets its contract. The invariant: the lines read have passed, and the goal shows their claims, whatever the table of so
 -- many lines. The measure is what is left of the text. Assumes nothing.
-use Prim.Native.Nat.{ℕ, ◌≤◌, ◌<◌}
+use Prim.Native.Nat.{ℕ, ◌+◌, ◌≤◌, ◌<◌}
 use mathlib.Core.List.{List}
-use mathlib.Core.Path.{◌≡◌, sym, ◌∙◌}
+use mathlib.Core.Path.{◌≡◌, refl, sym, subst, ◌∙◌}
 use native.Mathlib.Omega.{arith}
 use lib.ListN.{length}
 use Rattle.lines.specs.Text.{at_claims}
@@ -14,7 +14,13 @@ use Rattle.reading.proofs.Loop.{Line-found, when_found}
 use Rattle.alc.specs.Table.{Table}
 use Rattle.alc.specs.declared.Goal.{Goal as Records}
 use Rattle.goals.proofs.RecordLaws.{with_more, with_count}
-use Rattle.parts.specs.Parts.{ClaimsEnd, wrong, over, ClaimsRead}
+use Rattle.std.specs.Prelude.{Ok, Err}
+use Rattle.alc.specs.Shown.{number_of}
+use Rattle.alc.proofs.Refusals.{number_some}
+use Rattle.alc.specs.declared.refusal.Refusal.{Refusal}
+use Rattle.alc.specs.declared.refusal.Refusal.TheVariants.{Malformed, Unfinished}
+use Rattle.parts.specs.declared.Section.{Section}
+use Rattle.parts.specs.Parts.{ClaimsEnd, ClaimsLead, wrong, over, ClaimsRead}
 use Rattle.claims.proofs.ClaimWalk.{Walk, walk_begin, walk_more, stops, fails, turns, room, stands_among}
 use Rattle.claims.proofs.read_claims.Goals as goal
 
@@ -23,12 +29,12 @@ word : {text : List ℕ} {at : ℕ} {l : Line} {to : ℕ} → Line-found text at
 word {l = l} f = stands_among l f.allowed
 
 -- what the walk came to, where it is refused
-module _ (text : List ℕ) (start entries at n : ℕ) (g : Records) (few : g.count ≤ 64) (v : (T : Table) → length T ≡ entries → Walk text T start g at n) where
-  stopped : (k : ℕ) (x : Next) → read_at text at at_claims ≡ x → ((T : Table) (q : length T ≡ entries) → ClaimsEnd T (v T q).cs x k)
-      → (T : Table) → length T ≡ entries → ClaimsRead text T start (record { number = k; section = 0; at = at; lines = n; claims = g })
+module _ (text : List ℕ) (start entries at n : ℕ) (g : Records) (v : (T : Table) → length T ≡ entries → Walk text T start g at n) where
+  stopped : (k : Refusal) (x : Next) → read_at text at at_claims ≡ x → ((T : Table) (q : length T ≡ entries) → ClaimsEnd T (v T q).cs x (number_of k))
+      → (T : Table) → length T ≡ entries → ClaimsRead text T start (Err (record { refusal = k; line = n + 1 }))
   stopped k x e d T q =
       let w = v T q in
-      record { cs = w.cs; shown = w.shown; few = few; ranges = w.ranges; leads = stops _ T _ _ _ _ w x k e (d T q) }
+      record { cs = w.cs; lines = n; at = at; leads = stops _ T _ _ _ _ w x (number_of k) e (d T q); line = refl }
 
 pub loop-l-init : goal.loop-l-init
 loop-l-init c =
@@ -38,24 +44,23 @@ loop-l-init c =
 pub returns-then-l-ge-PROOF : goal.returns-then-l-ge-PROOF
 returns-then-l-ge-PROOF c = λ T q.
     let v = c.loop-l.invariant.3 T q in
-    let r = sym c.read.ensures ∙ c.in-Found.is in
-    let h = c.if-l-ge-PROOF.true in
     record {
       cs = v.cs;
       shown = v.shown;
       few = c.loop-l.invariant.2;
       ranges = v.ranges;
-      leads = turns _ T _ _ _ _ v _ _ r _ (omega (arith, h)) (omega (arith, h)) (omega (arith, h, (word (when_found _ _ _ _ _ r)).1));
+      leads = subst (λ (s : Section). ClaimsLead c.args.text.now T c.args.start v.cs (c.loop-l.n + 1) c.in-Found.next (Ok s)) (sym c.section.ensures)
+          (turns _ T _ _ _ _ v _ _ (sym c.read.ensures ∙ c.in-Found.is) c.if-l-ge-PROOF.true);
     }
 
-pub returns-then-k-ne0 : goal.returns-then-k-ne0
-returns-then-k-ne0 c =
-    let r = sym c.read.ensures ∙ c.in-Found.is in
-    stopped _ _ _ _ _ _ c.loop-l.invariant.2 c.loop-l.invariant.3 _ _ r
-    (λ T q. fails _ T _ _ _ _ (c.loop-l.invariant.3 T q) _ _ r c.if-l-ge-PROOF.false c.args.entries _ q c.claim_refusal-k.ensures c.if-k-ne0.true)
+pub next_claim-requires : goal.next_claim-requires
+next_claim-requires c = ((word (when_found _ _ _ _ _ (sym c.read.ensures ∙ c.in-Found.is))).0, c.if-l-ge-PROOF.false)
 
-pub made_claim-requires : goal.made_claim-requires
-made_claim-requires c = ((word (when_found _ _ _ _ _ (sym c.read.ensures ∙ c.in-Found.is))).0, c.if-l-ge-PROOF.false)
+pub returns-in-Err : goal.returns-in-Err
+returns-in-Err c =
+    let r = sym c.read.ensures ∙ c.in-Found.is in
+    stopped _ _ _ _ _ _ c.loop-l.invariant.3 _ _ r
+    (λ T q. fails _ T _ _ _ _ (c.loop-l.invariant.3 T q) _ _ r c.if-l-ge-PROOF.false c.args.entries _ q c.in-Err.ensures.row (number_some c.in-Err.refusal))
 
 pub loop-l-smaller : goal.loop-l-smaller
 loop-l-smaller c = let f = when_found _ _ _ _ _ (sym c.read.ensures ∙ c.in-Found.is) in omega (arith, f.later, f.within)
@@ -71,14 +76,14 @@ loop-l-preserved c =
       with_count _ _ i.2 w.1,
       λ T q.
           let v = i.3 T q in
-          let z = sym c.if-k-ne0.false ∙ c.claim_refusal-k.ensures in
+          let z = c.in-Ok.ensures.row in
           let less = room _ T _ _ _ _ v _ _ r c.if-l-ge-PROOF.false c.args.entries q c.requires.2 z in
-          walk_more _ T _ _ _ _ v _ _ r c.if-l-ge-PROOF.false c.args.entries q c.requires.2 z c.with-claims.result _ c.made_claim.ensures
+          walk_more _ T _ _ _ _ v _ _ r c.if-l-ge-PROOF.false c.args.entries q c.requires.2 z c.with-claims.result _ c.in-Ok.ensures.claim
           (with_more c.loop-l.claims.count _ _ _ less w.0) (with_more c.loop-l.claims.count _ _ _ less w.1),
     )
 
 pub returns-in-Bad : goal.returns-in-Bad
-returns-in-Bad c = stopped _ _ _ _ _ _ c.loop-l.invariant.2 c.loop-l.invariant.3 2 Bad (sym c.read.ensures ∙ c.in-Bad.is) (λ T q. wrong)
+returns-in-Bad c = stopped _ _ _ _ _ _ c.loop-l.invariant.3 Malformed Bad (sym c.read.ensures ∙ c.in-Bad.is) (λ T q. wrong)
 
 pub returns-in-End : goal.returns-in-End
-returns-in-End c = stopped _ _ _ _ _ _ c.loop-l.invariant.2 c.loop-l.invariant.3 12 End (sym c.read.ensures ∙ c.in-End.is) (λ T q. over)
+returns-in-End c = stopped _ _ _ _ _ _ c.loop-l.invariant.3 Unfinished End (sym c.read.ensures ∙ c.in-End.is) (λ T q. over)

@@ -15,6 +15,8 @@ use Rattle.alc.specs.Ranges.{in_range}
 use Rattle.alc.specs.Rules.{step_fields}
 use Rattle.alc.specs.Dossier.{saying}
 use Rattle.alc.proofs.Arms.{others}
+use Rattle.parts.specs.declared.Field.{Field as Kind}
+use Rattle.parts.specs.declared.Field.TheVariants.{Unsaid, Name, Concept}
 use Rattle.parts.specs.Fields.{said_fields, fields_by, kinds_at}
 use Rattle.parts.proofs.FieldLaws.{has, is_of, is_of_lem, fields_of}
 use Rattle.parts.proofs.ranged.Goals as goal
@@ -42,12 +44,12 @@ arms =
     ∷ []
 
 -- what is tested of a word of these kinds
-by : (l : Line) (e d a b c : ℕ) (r : Bool) → r ≡ every (in_range e d) (fields_by a b c l.n0 l.n1 l.n2) → is_of a b c l.word ≡ true
+by : (l : Line) (e d : ℕ) (a b c : Kind) (r : Bool) → r ≡ every (in_range e d) (fields_by a b c l.n0 l.n1 l.n2) → is_of a b c l.word ≡ true
     → r ≡ every (in_range e d) (said_fields (saying l))
 by l e d a b c r p h = p ∙ ap (every (in_range e d)) (sym (fields_of l a b c h))
 
 -- the kinds of a word by its number
-at : (a b c w k : ℕ) → has a b c k ≡ true → w ≡ k → is_of a b c w ≡ true
+at : (a b c : Kind) (w k : ℕ) → has a b c k ≡ true → w ≡ k → is_of a b c w ≡ true
 at a b c w k t e = ap (is_of a b c) e ∙ is_of_lem a b c k t
 
 pub returns-in-0 : goal.returns-in-0
@@ -122,4 +124,4 @@ pub returns-in_default : goal.returns-in_default
 unfolding words row_index step_fields kinds_at
 returns-in_default c =
     by c.args.l _ _ _ _ _ _ c.in_ranges-in_default.ensures
-    (is_of_lem _ _ _ _ (others (map (map number_of) arms) (has _ _ _) word_count refl _ c.requires (search rules)))
+    (is_of_lem _ _ _ _ (others (map (map number_of) arms) (has Name Concept Unsaid) word_count refl _ c.requires (search rules)))

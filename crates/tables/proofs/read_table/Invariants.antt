@@ -5,7 +5,7 @@ use Rattle.tables.proofs.TableWalk.{Walk}
 use Rattle.tables.proofs.read_table.Given as goal
 
 abbrev pub invariant-loop-l : goal.invariant-loop-l
-invariant-loop-l l = Walk l.text l.fn.kinds l.fn.firsts l.fn.seconds l.kinds l.firsts l.seconds l.at l.n
+invariant-loop-l l = Walk l.text l.table l.at
 
 abbrev pub decreases-loop-l : goal.decreases-loop-l
 decreases-loop-l l = length l.text - l.at
