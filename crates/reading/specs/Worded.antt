@@ -1,18 +1,17 @@
 -- What the functions find of a line from its word on, said by the definitions of `Text`.
-use Rattle.std.specs.Prelude.{ℕ, ◌-◌, ◌≤◌, List, ◌≡◌, cond, length, take, drop}
+use Rattle.std.specs.Prelude.{ℕ, ◌-◌, ◌≤◌, List, ◌≡◌, cond, length, take, drop, Option, Some, None}
 use Rattle.lines.specs.Text.{row_of, word_of, behind_of, allowed}
 use Rattle.lines.specs.Walk.{read_at}
 use Rattle.lines.specs.declared.Next.{Next}
 use Rattle.lines.specs.declared.Next.TheVariants.{Found, Bad}
 use Rattle.numbers.specs.Numbers.{numbers_in}
-use Rattle.numbers.specs.declared.Nums.{Nums}
-use Rattle.numbers.specs.declared.Nums.TheVariants.{Are, Not as NotAll}
+use Rattle.numbers.specs.declared.Values.{Values}
 use Rattle.reading.specs.declared.Part.{Part}
 
 -- the line of word w and side s with these numbers
-abbrev pub next_by : ℕ → ℕ → Nums → Next
-next_by w s NotAll = Bad
-next_by w s (Are a b c d next) = Found (record { word = w; side = s; n0 = a; n1 = b; n2 = c; n3 = d }) next
+abbrev pub next_by : ℕ → ℕ → Option Values → Next
+next_by w s None = Bad
+next_by w s (Some r) = Found (record { word = w; side = s; n0 = r.n0; n1 = r.n1; n2 = r.n2; n3 = r.n3 }) r.next
 
 -- the line of side s whose word, of number w, ends at e, where xs begins, for place p
 unfoldable pub worded_in : ℕ → ℕ → ℕ → ℕ → List ℕ → Next

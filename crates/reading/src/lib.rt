@@ -10,7 +10,7 @@ ghost use Rattle.reading.specs.Worded.{worded_at, WordAt};
 
 use digits::{holds, parts};
 use lines::{LEFT, Line, NO_SIDE, Next, RIGHT, WORDS, count, same};
-use numbers::{Nums, numbers};
+use numbers::numbers;
 use words::word;
 
 // A field: the bytes of a text from a position on, up to another.
@@ -73,19 +73,19 @@ fn worded(text: &[u8], a: usize, e: usize, s: u8, place: u8) -> Next
     if w >= WORDS {
         return Next::Bad;
     }
-    let Nums::Are(n0, n1, n2, n3, next) = numbers(text, e, count(w)) else {
+    let Some(m) = numbers(text, e, count(w)) else {
         return Next::Bad;
     };
     Next::Found(
         Line {
             word: w,
             side: s,
-            n0: n0,
-            n1: n1,
-            n2: n2,
-            n3: n3,
+            n0: m.n0,
+            n1: m.n1,
+            n2: m.n2,
+            n3: m.n3,
         },
-        next,
+        m.next,
     )
 }
 
