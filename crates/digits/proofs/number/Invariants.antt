@@ -1,4 +1,4 @@
--- The invariant of the loop.
+-- The invariant of the loop: the number is what is left from i on behind digits of value v, which is at most 65,535.
 use Prim.Native.Nat.{◌≤◌}
 use mathlib.Core.Path.{◌≡◌}
 use lib.ListN.{drop}
