@@ -1,7 +1,7 @@
 // The numbers of a line: the rest of a line as so many numbers. No text is copied.
 #![tactic(auto)]
 
-ghost use Rattle.std.specs.Prelude.{◌≡◌, drop};
+ghost use Rattle.std.specs.Prelude.{◌≡◌, ◌-◌, drop};
 ghost use Rattle.numbers.specs.Numbers.{numbers_in, next_at, behind};
 
 use digits::{holds, number};
@@ -30,12 +30,12 @@ fn next_number(text: &[u8], at: usize, wanted: bool) -> Option<(u16, usize)>
     number(text, at + 1)
 }
 
-// The position behind the line, from a position where a field ends and so many numbers are left.
-fn line_end(text: &[u8], at: usize, left: u8) -> Option<usize>
-    ensures { result ≡ behind (numbers_in at left (drop at text.now)) }
+// The position behind the line, from a position where a field ends and `done` of its numbers are read.
+fn line_end(text: &[u8], at: usize, done: u8, count: u8) -> Option<usize>
+    ensures { result ≡ behind (numbers_in at (count - done) (drop at text.now)) }
 {
     let mut e = at;
-    for _ in 0..left {
+    for _ in done..count {
         let (_, end) = next_number(text, e, true)?;
         e = end;
     }
@@ -53,7 +53,7 @@ pub fn numbers(text: &[u8], at: usize, count: u8) -> Option<Values>
     let (n1, e1) = next_number(text, e0, count > 1)?;
     let (n2, e2) = next_number(text, e1, count > 2)?;
     let (n3, e3) = next_number(text, e2, count > 3)?;
-    let next = line_end(text, e3, count.saturating_sub(4))?;
+    let next = line_end(text, e3, 4, count)?;
     Some(Values {
         n0,
         n1,

@@ -10,8 +10,8 @@ use Rattle.numbers.proofs.Fields.{behind_led, end_here, end_further, next_wrong,
 use Rattle.numbers.proofs.line_end.Goals as goal
 
 -- none is left
-last : (text : List ℕ) (e left k : ℕ) → left ≤ k → behind (numbers_in e (left - k) (drop e text)) ≡ behind (numbers_in e 0 (drop e text))
-last text e left k h = let z : left - k ≡ 0 = omega arith in rw z
+last : (text : List ℕ) (e count k : ℕ) → count ≤ k → behind (numbers_in e (count - k) (drop e text)) ≡ behind (numbers_in e 0 (drop e text))
+last text e count k h = let z : count - k ≡ 0 = omega arith in rw z
 
 pub returns-in_err-end : goal.returns-in_err-end
 returns-in_err-end c =

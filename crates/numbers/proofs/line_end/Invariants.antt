@@ -6,4 +6,4 @@ use Rattle.numbers.specs.Numbers.{numbers_in, behind}
 use Rattle.numbers.proofs.line_end.Given as goal
 
 abbrev pub invariant-loop : goal.invariant-loop
-invariant-loop l = behind (numbers_in l.at l.left (drop l.at l.text)) ≡ behind (numbers_in l.e (l.left - l.counter) (drop l.e l.text))
+invariant-loop l = behind (numbers_in l.at (l.count - l.done) (drop l.at l.text)) ≡ behind (numbers_in l.e (l.count - l.counter) (drop l.e l.text))

@@ -8,7 +8,7 @@ use lib.Dec.{ltb}
 use lib.ListN.{drop}
 use Rattle.std.specs.Prelude.{Option, Some, None}
 use Rattle.numbers.specs.declared.Values.{Values}
-use Rattle.numbers.specs.Numbers.{numbers_in, next_at, led, behind}
+use Rattle.numbers.specs.Numbers.{numbers_in, next_at, led}
 use Rattle.numbers.proofs.Fields.{behind_none, four_led, next_wrong, next_read}
 use Rattle.numbers.proofs.numbers.Goals as goal
 
@@ -45,11 +45,6 @@ module _ (text : List ℕ) (at count : ℕ) where
 led_none : (v : ℕ) {r : Option Values} → r ≡ None → led v r ≡ None
 led_none v h = rw h
 
--- where the line ends behind the four
-ended : (text : List ℕ) (e count n : ℕ) {r q : Option ℕ} → r ≡ behind (numbers_in e n (drop e text)) → n ≡ count - 4 → r ≡ q
-    → behind (numbers_in e (count - 4) (drop e text)) ≡ q
-ended text e count n f g h = rw (← g) (sym f ∙ h)
-
 pub returns-in_err-n0 : goal.returns-in_err-n0
 returns-in_err-n0 c =
     c.from_residual.ensures ∙ sym (sym (whole _ _ _) ∙ next_wrong _ _ 0 _ refl c.next_number.ensures c.in_err-n0.was)
@@ -75,9 +70,9 @@ pub returns-in_err-next : goal.returns-in_err-next
 returns-in_err-next c =
     c.from_residual-in_err-next.ensures
     ∙ sym (four _ _ _ _ _ c.next_number.ensures c.in_ok-n0.was _ _ c.next_number-2.ensures c.in_ok-n1.was _ _ c.next_number-3.ensures c.in_ok-n2.was _ _ c.next_number-4.ensures c.in_ok-n3.was
-    ∙ led_none _ (led_none _ (led_none _ (led_none _ (behind_none _ (ended _ _ _ _ c.line_end.ensures c.saturating_sub.ensures c.in_err-next.was))))))
+    ∙ led_none _ (led_none _ (led_none _ (led_none _ (behind_none _ (sym c.line_end.ensures ∙ c.in_err-next.was))))))
 
 pub returns : goal.returns
 returns c =
     sym (four _ _ _ _ _ c.next_number.ensures c.in_ok-n0.was _ _ c.next_number-2.ensures c.in_ok-n1.was _ _ c.next_number-3.ensures c.in_ok-n2.was _ _ c.next_number-4.ensures c.in_ok-n3.was
-    ∙ four_led _ _ _ _ _ _ (ended _ _ _ _ c.line_end.ensures c.saturating_sub.ensures c.in_ok-next.was))
+    ∙ four_led _ _ _ _ _ _ (sym c.line_end.ensures ∙ c.in_ok-next.was))
