@@ -4,7 +4,7 @@ use Prim.Native.Nat.{ℕ, zero, suc, ◌+◌, ◌-◌, ◌≤◌, ◌<◌}
 use mathlib.Core.List.{List, []}
 use lib.ListN.{get_or-eq_default}
 use mathlib.Core.Path.{◌≡◌, refl, sym, ◌∙◌}
-use mathlib.Core.Bool.{Bool, true, false, cond, ◌&&◌}
+use mathlib.Core.Bool.{Bool, true, false, cond, not, ◌&&◌}
 use native.Mathlib.Omega.{arith}
 use lib.Dec.{eqb}
 use Rattle.std.specs.Prelude.{Option, Some, None, unwrap_or}
@@ -39,7 +39,12 @@ unfoldable pub stand : ℕ → ℕ → ℕ → Bool
 stand b a zero = true
 stand b a (suc n) = eqb b (row_of a).behind && stand b (suc a) n
 
--- so these words are sought there: they are the first of the k, and the others decide where none of them is the field
+-- and none of them does
+unfoldable pub stand_apart : ℕ → ℕ → ℕ → Bool
+stand_apart b a zero = true
+stand_apart b a (suc n) = not (eqb b (row_of a).behind) && stand_apart b (suc a) n
+
+-- words that stand there are sought: they are the first of the k, and the others decide where none of them is the field
 module _ (b : ℕ) (f : List ℕ) where
   pub sought_first : (a n k w : ℕ) {r : Option ℕ} → stand b a n ≡ true → n ≤ k → r ≡ seek f a n → r ≡ Some w → w ≡ sought b f a k
   unfolding seek sought stand
@@ -71,7 +76,22 @@ module _ (b : ℕ) (f : List ℕ) where
       go false true i j = cc
       go false false i j = j i
 
-  -- and they are all
+  -- words that do not are passed by
+  pub sought_past : (a n k q : ℕ) → stand_apart b a n ≡ true → n ≤ k → q ≡ sought b f (a + n) (k - n) → q ≡ sought b f a k
+  unfolding sought stand_apart
+  sought_past a zero k q t h i = let z : k - 0 ≡ k = omega arith in i ∙ rw (add-zero, z)
+  sought_past a (suc n) zero q t h i = absurd (omega arith)
+  sought_past a (suc n) (suc k) q t h i =
+      let z : a + suc n ≡ suc a + n = omega arith in
+      let y : suc k - suc n ≡ k - n = omega arith in
+      go (eqb b (row_of a).behind) (and_left (not (eqb b (row_of a).behind)) _ t)
+      (sought_past (suc a) n k q (and_right (not (eqb b (row_of a).behind)) _ t) (omega arith) (i ∙ rw (z, y)))
+    where
+      go : (u : Bool) → not u ≡ true → q ≡ sought b f (suc a) k → q ≡ cond (u && same f (bytes (row_of a).word)) a (sought b f (suc a) k)
+      go true p j = cc
+      go false p j = j
+
+  -- the words that stand there are all
   pub sought_all : (a n u : ℕ) {r : Option ℕ} → stand b a n ≡ true → r ≡ seek f a n → u ≡ unwrap_or r word_count → u ≡ sought b f a n
   unfolding sought
   sought_all a n u {r = None} t e g =
