@@ -3,35 +3,27 @@
 // A line is read in one pass over its bytes, plus the comparison of its word. No text is copied.
 #![tactic(auto)]
 
-ghost use Rattle.std.specs.Prelude.{◌≡◌, ◌+◌, ◌≤◌, ◌<◌, length, drop};
+ghost use Rattle.std.specs.Prelude.{◌≡◌, ◌≤◌, ◌<◌, length, drop};
 ghost use Rattle.lines.specs.Text.{side_of};
 ghost use Rattle.lines.specs.Walk.{field_of, read_at};
 ghost use Rattle.reading.specs.Worded.{worded_at, WordAt};
 
 use digits::{holds, parts};
 use lines::{LEFT, Line, NO_SIDE, Next, RIGHT, WORDS, count, same};
-use numbers::{Nums, numbers};
+use numbers::numbers;
 use words::word;
 
-// A field: the bytes of a text from a position on, up to another.
-#[derive(Clone, Copy)]
-struct Part {
-    from: usize,
-    to: usize,
-}
-
-// Where the field that begins at a position ends.
-fn field_end(text: &[u8], at: usize) -> usize
-    ensures { result ≡ at + length (field_of (drop at text.now)) }
+// The field that begins at a position.
+fn field(text: &[u8], at: usize) -> &[u8]
+    requires { at ≤ length text.now }
+    ensures { result.now ≡ field_of (drop at text.now) }
 {
-    let mut i = at;
-    while i < text.len() {
+    for i in at..text.len() {
         if parts(text[i]) {
-            return i;
+            return &text[at..i];
         }
-        i += 1;
     }
-    i
+    &text[at..]
 }
 
 // The side that a first field says.
@@ -47,45 +39,44 @@ fn side(f: &[u8]) -> u8
     NO_SIDE
 }
 
-// Where the word of the line at a position stands, whose first field ends at e and says the side s: it is that field, or the one behind it,
-// which is empty where the line ends.
-fn word_part(text: &[u8], at: usize, e: usize, s: u8) -> Part
-    requires { (at < length text.now) × (e ≡ at + length (field_of (drop at text.now))) × (s ≡ side_of (field_of (drop at text.now))) }
+// The word of the line at a position, of side s, and where it ends: the line's first field, or the one behind it. There is none where a line of
+// a side goes no further.
+fn word_field<'a>(text: &'a [u8], at: usize, first: &'a [u8], s: u8) -> Option<(&'a [u8], usize)>
+    requires { (at < length text.now) × (first.now ≡ field_of (drop at text.now)) × (s ≡ side_of first.now) }
     ensures { WordAt text.now at s result }
 {
+    let e = at + first.len();
     if s == NO_SIDE {
-        return Part { from: at, to: e };
+        return Some((first, e));
     }
-    if !holds(text, e, 9) {
-        return Part { from: e, to: e };
+    if !holds(text, e, b'\t') {
+        return None;
     }
-    let from = e + 1;
-    let to = field_end(text, from);
-    Part { from: from, to: to }
+    let second = field(text, e + 1);
+    Some((second, e + 1 + second.len()))
 }
 
-// The line of side s whose word is the field from a to e.
-fn worded(text: &[u8], a: usize, e: usize, s: u8, place: u8) -> Next
-    requires { (a ≤ e) × (e ≤ length text.now) }
-    ensures { result ≡ worded_at text.now a e s place }
+// The line of side s whose word is the field f, which ends at e.
+fn worded(text: &[u8], f: &[u8], e: usize, s: u8, place: u8) -> Next
+    ensures { result ≡ worded_at text.now f.now e s place }
 {
-    let w = word(&text[a..e], s, place);
+    let w = word(f, s, place);
     if w >= WORDS {
         return Next::Bad;
     }
-    let Nums::Are(n0, n1, n2, n3, next) = numbers(text, e, count(w)) else {
+    let Some(m) = numbers(text, e, count(w)) else {
         return Next::Bad;
     };
     Next::Found(
         Line {
             word: w,
             side: s,
-            n0: n0,
-            n1: n1,
-            n2: n2,
-            n3: n3,
+            n0: m.n0,
+            n1: m.n1,
+            n2: m.n2,
+            n3: m.n3,
         },
-        next,
+        m.next,
     )
 }
 
@@ -96,8 +87,10 @@ pub fn read(text: &[u8], at: usize, place: u8) -> Next
     if at >= text.len() {
         return Next::End;
     }
-    let e = field_end(text, at);
-    let s = side(&text[at..e]);
-    let p = word_part(text, at, e, s);
-    worded(text, p.from, p.to, s, place)
+    let first = field(text, at);
+    let s = side(first);
+    let Some((f, e)) = word_field(text, at, first, s) else {
+        return Next::Bad;
+    };
+    worded(text, f, e, s, place)
 }

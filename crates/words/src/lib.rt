@@ -1,203 +1,93 @@
 // Which word a field is. The words are fixed byte strings, and a field is compared with one after the other, of those alone that may stand at the
-// place, and four at most in a function, so that the last answer of its proof finds all of them by itself.
+// place.
 #![tactic(auto)]
 
 ghost use Rattle.std.specs.Prelude.{◌≡◌, ◌-◌, length};
-ghost use Rattle.lines.specs.Text.{claim_words, section_words, step_words, size_words, fact_words, word_of, behind_of};
-ghost use Rattle.lines.specs.Walk.{claims_from, sections_from, steps_from, size_from, facts_from, number_of, placed, sought};
+ghost use Rattle.lines.specs.Text.{bytes, row_of, step_words, word_of, behind_of};
+ghost use Rattle.lines.specs.Walk.{steps_from, placed, sought};
+ghost use Rattle.words.specs.Seek.{seek};
 
 use lines::{AT_SIZE, IN_CLAIMS, IN_FACTS, IN_STEPS, IN_TABLE, NO_SIDE, WORDS, same};
 
-// The number of the field f as a word, if it is `proof` or `model`, or the count of words.
-fn section_word(f: &[u8]) -> u8
-    ensures { result ≡ sought 0 f.now sections_from (length section_words) }
+// The word of number w.
+fn spelling(w: u8) -> &'static [u8]
+    ensures { result.now ≡ bytes (row_of w).word }
 {
-    if same(f, b"proof") {
-        return lines::PROOF;
+    match w {
+        lines::TOP => b"top",
+        lines::BOT => b"bot",
+        lines::ATOM => b"atom",
+        lines::NOT => b"not",
+        lines::AND => b"and",
+        lines::OR => b"or",
+        lines::SOME => b"some",
+        lines::ALL => b"all",
+        lines::IS => b"is",
+        lines::SUB => b"sub",
+        lines::LINK => b"link",
+        lines::PROOF => b"proof",
+        lines::MODEL => b"model",
+        lines::ID => b"id",
+        lines::ID_SUB => b"id-sub",
+        lines::ID_LINK => b"id-link",
+        lines::BOT_L => b"bot-l",
+        lines::TOP_R => b"top-r",
+        lines::TOP_L => b"top-l",
+        lines::BOT_R => b"bot-r",
+        lines::NOT_L => b"not-l",
+        lines::NOT_R => b"not-r",
+        lines::AND_L => b"and-l",
+        lines::AND_R => b"and-r",
+        lines::OR_L => b"or-l",
+        lines::OR_R => b"or-r",
+        lines::SUB_L => b"sub-l",
+        lines::SUB_R => b"sub-r",
+        lines::SOME_L => b"some-l",
+        lines::SOME_R => b"some-r",
+        lines::ALL_L => b"all-l",
+        lines::ALL_R => b"all-r",
+        lines::SIZE => b"size",
+        lines::NAME => b"name",
+        lines::HAS => b"has",
+        lines::EDGE => b"edge",
+        _ => b"",
     }
-    if same(f, b"model") {
-        return lines::MODEL;
-    }
-    WORDS
 }
 
-// The same among the words of entries with two numbers, and `proof` and `model`.
-fn pair_word(f: &[u8]) -> u8
-    ensures { result ≡ sought 0 f.now (number_of "and") (steps_from - number_of "and") }
+// The number of the field f as a word, if it is one of the words from `from` on, before `to`.
+#[tactic(auto, using(crate::proofs::Seeking::one_by_one))]
+fn among(f: &[u8], from: u8, to: u8) -> Option<u8>
+    ensures { result ≡ seek f.now from (to - from) }
 {
-    if same(f, b"and") {
-        return lines::AND;
+    for w in from..to {
+        if same(f, spelling(w)) {
+            return Some(w);
+        }
     }
-    if same(f, b"or") {
-        return lines::OR;
-    }
-    if same(f, b"some") {
-        return lines::SOME;
-    }
-    if same(f, b"all") {
-        return lines::ALL;
-    }
-    section_word(f)
+    None
 }
 
-// The same among those, and the words of entries with one number or none: all words of the table.
+// The number of the field f as a word of the concept table, or as `proof` or `model`, or the count of words.
 fn table_word(f: &[u8]) -> u8
     ensures { result ≡ sought 0 f.now 0 steps_from }
 {
-    if same(f, b"top") {
-        return lines::TOP;
+    if let Some(w) = among(f, lines::TOP, lines::IS) {
+        return w;
     }
-    if same(f, b"bot") {
-        return lines::BOT;
-    }
-    if same(f, b"atom") {
-        return lines::ATOM;
-    }
-    if same(f, b"not") {
-        return lines::NOT;
-    }
-    pair_word(f)
+    among(f, lines::PROOF, lines::ID).unwrap_or(WORDS)
 }
 
-// The same among the words of the claims.
-fn claim_word(f: &[u8]) -> u8
-    ensures { result ≡ sought 1 f.now claims_from (length claim_words) }
-{
-    if same(f, b"is") {
-        return lines::IS;
-    }
-    if same(f, b"sub") {
-        return lines::SUB;
-    }
-    if same(f, b"link") {
-        return lines::LINK;
-    }
-    WORDS
-}
-
-// The same among the words of the steps on `some` and `all`.
-fn role_word(f: &[u8]) -> u8
-    ensures { result ≡ sought 0 f.now (number_of "some-l") (size_from - number_of "some-l") }
-{
-    if same(f, b"some-l") {
-        return lines::SOME_L;
-    }
-    if same(f, b"some-r") {
-        return lines::SOME_R;
-    }
-    if same(f, b"all-l") {
-        return lines::ALL_L;
-    }
-    if same(f, b"all-r") {
-        return lines::ALL_R;
-    }
-    WORDS
-}
-
-// The same among those, and the words of the steps on `sub`.
-fn sub_word(f: &[u8]) -> u8
-    ensures { result ≡ sought 0 f.now (number_of "sub-l") (size_from - number_of "sub-l") }
-{
-    if same(f, b"sub-l") {
-        return lines::SUB_L;
-    }
-    if same(f, b"sub-r") {
-        return lines::SUB_R;
-    }
-    role_word(f)
-}
-
-// The same among those, and the words of the steps on `and` and `or`.
-fn and_or_word(f: &[u8]) -> u8
-    ensures { result ≡ sought 0 f.now (number_of "and-l") (size_from - number_of "and-l") }
-{
-    if same(f, b"and-l") {
-        return lines::AND_L;
-    }
-    if same(f, b"and-r") {
-        return lines::AND_R;
-    }
-    if same(f, b"or-l") {
-        return lines::OR_L;
-    }
-    if same(f, b"or-r") {
-        return lines::OR_R;
-    }
-    sub_word(f)
-}
-
-// The same among those, and the words of the steps on `not`.
-fn not_word(f: &[u8]) -> u8
-    ensures { result ≡ sought 0 f.now (number_of "not-l") (size_from - number_of "not-l") }
-{
-    if same(f, b"not-l") {
-        return lines::NOT_L;
-    }
-    if same(f, b"not-r") {
-        return lines::NOT_R;
-    }
-    and_or_word(f)
-}
-
-// The same among those, and the words of the steps on `top` and `bot`.
-fn unit_word(f: &[u8]) -> u8
-    ensures { result ≡ sought 0 f.now (number_of "bot-l") (size_from - number_of "bot-l") }
-{
-    if same(f, b"bot-l") {
-        return lines::BOT_L;
-    }
-    if same(f, b"top-r") {
-        return lines::TOP_R;
-    }
-    if same(f, b"top-l") {
-        return lines::TOP_L;
-    }
-    if same(f, b"bot-r") {
-        return lines::BOT_R;
-    }
-    not_word(f)
-}
-
-// The same among those, and the words of the identities: all words of the steps.
+// The same among the words of the steps, in parts that are short, so that the compiler unrolls the loop over each.
 fn step_word(f: &[u8]) -> u8
     ensures { result ≡ sought 0 f.now steps_from (length step_words) }
 {
-    if same(f, b"id") {
-        return lines::ID;
+    if let Some(w) = among(f, lines::ID, lines::NOT_L) {
+        return w;
     }
-    if same(f, b"id-sub") {
-        return lines::ID_SUB;
+    if let Some(w) = among(f, lines::NOT_L, lines::SUB_L) {
+        return w;
     }
-    if same(f, b"id-link") {
-        return lines::ID_LINK;
-    }
-    unit_word(f)
-}
-
-// The same, if it is `size`.
-fn size_word(f: &[u8]) -> u8
-    ensures { result ≡ sought 0 f.now size_from (length size_words) }
-{
-    if same(f, b"size") {
-        return lines::SIZE;
-    }
-    WORDS
-}
-
-// The same among the words of a model's further lines.
-fn fact_word(f: &[u8]) -> u8
-    ensures { result ≡ sought 0 f.now facts_from (length fact_words) }
-{
-    if same(f, b"name") {
-        return lines::NAME;
-    }
-    if same(f, b"has") {
-        return lines::HAS;
-    }
-    if same(f, b"edge") {
-        return lines::EDGE;
-    }
-    WORDS
+    among(f, lines::SUB_L, lines::SIZE).unwrap_or(WORDS)
 }
 
 // The number of the field f as a word of a line of a side, at a place, or the count of words. No word that is not allowed there is compared.
@@ -208,14 +98,14 @@ pub fn word(f: &[u8], side: u8, place: u8) -> u8
         if place > IN_CLAIMS {
             return WORDS;
         }
-        return claim_word(f);
+        return among(f, lines::IS, lines::PROOF).unwrap_or(WORDS);
     }
     match place {
         IN_TABLE => table_word(f),
-        IN_CLAIMS => section_word(f),
+        IN_CLAIMS => among(f, lines::PROOF, lines::ID).unwrap_or(WORDS),
         IN_STEPS => step_word(f),
-        AT_SIZE => size_word(f),
-        IN_FACTS => fact_word(f),
+        AT_SIZE => among(f, lines::SIZE, lines::NAME).unwrap_or(WORDS),
+        IN_FACTS => among(f, lines::NAME, WORDS).unwrap_or(WORDS),
         _ => WORDS,
     }
 }

@@ -5,14 +5,15 @@ use mathlib.Core.List.{List}
 use Rattle.lines.specs.Text.{word_count, row_of}
 use Rattle.lines.specs.Walk.{placed}
 use Rattle.numbers.specs.Numbers.{numbers_in}
-use Rattle.numbers.specs.declared.Nums.{Nums}
+use Rattle.std.specs.Prelude.{Option}
+use Rattle.numbers.specs.declared.Values.{Values}
 use Rattle.reading.specs.Worded.{next_by, worded_in}
 use Rattle.lines.proofs.Words.{placed_past, placed_within}
 use Rattle.reading.proofs.Whole.{worded_falls, worded_stands}
 use Rattle.reading.proofs.worded.Goals as goal
 
 -- the word v is found as w, which takes n numbers, and they are read as r
-by_numbers : (place v w s e n : ℕ) (left : List ℕ) (r : Nums) → w ≡ placed place v → w < word_count → n ≡ (row_of w).count → r ≡ numbers_in e n left → worded_in place v s e left ≡ next_by w s r
+by_numbers : (place v w s e n : ℕ) (left : List ℕ) (r : Option Values) → w ≡ placed place v → w < word_count → n ≡ (row_of w).count → r ≡ numbers_in e n left → worded_in place v s e left ≡ next_by w s r
 by_numbers place v w s e n left r p h k q =
     let i = placed_within _ v _ p h in
     ap (λ (u : ℕ). worded_in place u s e left) i.1
@@ -28,4 +29,4 @@ returns-in_default c =
     sym (by_numbers _ _ _ _ _ _ _ _ c.word-w.ensures c.if-w-ge-WORDS.false c.count.ensures c.numbers.ensures ∙ ap (next_by _ _) c.in_default.is)
 
 pub returns : goal.returns
-returns c = sym (by_numbers _ _ _ _ _ _ _ _ c.word-w.ensures c.if-w-ge-WORDS.false c.count.ensures c.numbers.ensures ∙ ap (next_by _ _) c.in-Are.is)
+returns c = sym (by_numbers _ _ _ _ _ _ _ _ c.word-w.ensures c.if-w-ge-WORDS.false c.count.ensures c.numbers.ensures ∙ ap (next_by _ _) c.in-Some.is)

@@ -1,21 +1,23 @@
--- `words::step_word` meets its contract: it compares with each of these words, and a field is one word at most; `unit_word` compares with those behind them. Assumes nothing.
-use Rattle.lines.specs.Text.{words, row_of, row_index}
-use Rattle.lines.proofs.Words.{hit, missed, spelled, rest}
+-- `words::step_word` meets its contract: the parts that it seeks in are the words of the steps, one behind the other. Assumes nothing.
 use mathlib.Core.Path.{refl}
+use native.Mathlib.Omega.{arith}
+use Rattle.lines.specs.Text.{words, row_of}
+use Rattle.words.proofs.Seeking.{stand, sought_first, sought_behind, sought_all}
 use Rattle.words.proofs.step_word.Goals as goal
 
-pub returns-then-same : goal.returns-then-same
-unfolding words row_of row_index spelled
-returns-then-same c = search hit
+pub returns-in-Some : goal.returns-in-Some
+unfolding words row_of stand
+returns-in-Some c = sought_first _ _ _ _ _ _ refl (omega arith) c.among.ensures c.in-Some.is
 
-pub returns-then-same-2 : goal.returns-then-same-2
-unfolding words row_of row_index spelled
-returns-then-same-2 c = search hit
-
-pub returns-then-same-3 : goal.returns-then-same-3
-unfolding words row_of row_index spelled
-returns-then-same-3 c = search hit
+pub returns-in-Some-among : goal.returns-in-Some-among
+unfolding words row_of stand
+returns-in-Some-among c =
+    sought_behind _ _ _ _ _ _ (omega arith) c.among.ensures c.in_default.is
+    (sought_first _ _ _ _ _ _ refl (omega arith) c.among-2.ensures c.in-Some-among.is)
 
 pub returns : goal.returns
-unfolding words row_of row_index spelled
-returns c = rest _ _ _ _ _ _ refl (search missed) c.unit_word.ensures
+unfolding words row_of stand
+returns c =
+    sought_behind _ _ _ _ _ _ (omega arith) c.among.ensures c.in_default.is
+    (sought_behind _ _ _ _ _ _ (omega arith) c.among-2.ensures c.in_default-among.is
+    (sought_all _ _ _ _ _ refl c.among-3.ensures c.unwrap_or.ensures))

@@ -1,25 +1,17 @@
--- `words::table_word` meets its contract: it compares with each of these words, and a field is one word at most; `pair_word` compares with those behind them. Assumes nothing.
-use Rattle.lines.specs.Text.{words, row_of, row_index}
-use Rattle.lines.proofs.Words.{hit, missed, spelled, rest}
+-- `words::table_word` meets its contract: the words of the claims stand between the two parts that it seeks in, and behind a side. Assumes nothing.
 use mathlib.Core.Path.{refl}
+use lib.ListN.{length}
+use native.Mathlib.Omega.{arith}
+use Rattle.lines.specs.Text.{claim_words, words, row_of}
+use Rattle.words.proofs.Seeking.{stand, stand_apart, sought_past, sought_first, sought_behind, sought_all}
 use Rattle.words.proofs.table_word.Goals as goal
 
-pub returns-then-same : goal.returns-then-same
-unfolding words row_of row_index spelled
-returns-then-same c = search hit
-
-pub returns-then-same-2 : goal.returns-then-same-2
-unfolding words row_of row_index spelled
-returns-then-same-2 c = search hit
-
-pub returns-then-same-3 : goal.returns-then-same-3
-unfolding words row_of row_index spelled
-returns-then-same-3 c = search hit
-
-pub returns-then-same-4 : goal.returns-then-same-4
-unfolding words row_of row_index spelled
-returns-then-same-4 c = search hit
+pub returns-in-Some : goal.returns-in-Some
+unfolding words row_of stand
+returns-in-Some c = sought_first _ _ _ _ _ _ refl (omega arith) c.among.ensures c.in-Some.is
 
 pub returns : goal.returns
-unfolding words row_of row_index spelled
-returns c = rest _ _ _ _ _ _ refl (search missed) c.pair_word.ensures
+unfolding words row_of stand stand_apart
+returns c =
+    sought_behind _ _ _ _ _ _ (omega arith) c.among.ensures c.in_default.is
+    (sought_past _ _ _ (length claim_words) _ _ refl (omega arith) (sought_all _ _ _ _ _ refl c.among-2.ensures c.unwrap_or.ensures))

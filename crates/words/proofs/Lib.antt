@@ -1,0 +1,2 @@
+-- `Seeking` of the field among the words.
+pub mod Seeking
