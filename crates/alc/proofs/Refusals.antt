@@ -1,7 +1,8 @@
--- The code's refusals: each has one number of the list, and none has 0.
+-- The code's refusals: each has one number of the list, and none has 0; and one that is handed on stays as it is.
 -- Assumes nothing.
-use Rattle.std.proofs.Common.{ℕ, ◌-◌, get_or, [], ◌∷◌, ◌≡◌, refl, sym, ap, ap₂, ◌∙◌}
+use Rattle.std.proofs.Common.{ℕ, ◌-◌, get_or, [], ◌∷◌, Result, Ok, Err, ◌≡◌, refl, sym, ap, ap₂, ◌∙◌}
 use native.Mathlib.Omega.{arith}
+use Rattle.std.specs.Result.{IsErrAnd}
 use Rattle.alc.specs.Shown.{number_of}
 use Rattle.alc.specs.declared.Refused.{Refused}
 use Rattle.alc.specs.declared.refusal.Refusal.{Refusal}
@@ -49,3 +50,8 @@ number_once j k e = sym (back j) ∙ ap refusal_at e ∙ back k
 
 pub refused_once : (e f : Refused) → number_of e.refusal ≡ number_of f.refusal → e.line ≡ f.line → e ≡ f
 refused_once e f k n = ap₂ (λ (r : Refusal) (m : ℕ). record { refusal = r; line = m }) (number_once e.refusal f.refusal k) n
+
+-- an error that `?` hands on is the one that was given
+pub handed_on : {A E : Type 0} (r : Result A E) (e : E) → IsErrAnd r (λ f. f ≡ e) → r ≡ Err e
+handed_on (Ok x) e h = absurd h
+handed_on (Err f) e h = ap Err h

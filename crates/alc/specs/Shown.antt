@@ -64,18 +64,9 @@ Shows g cs = records g ≡ map record_of cs
 abbrev pub kinds : List Kind
 kinds = Kind.top ∷ Kind.bot ∷ Kind.atom ∷ Kind.not ∷ Kind.and ∷ Kind.or ∷ Kind.some ∷ Kind.all ∷ []
 
--- how many kinds there are
-abbrev pub kind_count : ℕ
-kind_count = length kinds
-
 -- the kind of a number
 abbrev pub kind_at : ℕ → Kind
 kind_at k = get_or kinds k Kind.top
-
--- the first n lines of the table that three columns hold: the kinds, the first numbers and the second numbers
-unfoldable pub table_of : List ℕ → List ℕ → List ℕ → ℕ → Table
-table_of ks xs ys zero = []
-table_of ks xs ys (suc n) = table_of ks xs ys n ++ (entry_of (kind_at (get_or ks n 0)) (get_or xs n 0) (get_or ys n 0) ∷ [])
 
 -- the number of a refusal in the list
 abbrev pub number_of : Refusal → ℕ

@@ -6,11 +6,11 @@ use Rattle.std.specs.Result.{IsOk}
 use mathlib.Core.Path.{ap₂}
 use Rattle.alc.specs.Rows.{Row}
 use Rattle.alc.specs.Table.{Kind, Table, Entry, entry, entry_of}
-use Rattle.alc.specs.Shown.{records}
+use Rattle.alc.specs.Shown.{records, row_number}
 use Rattle.alc.specs.declared.Goal.{Goal as Records}
 use Rattle.alc.specs.declared.refusal.Refusal.{Refusal}
 use Rattle.goals.specs.declared.Turn.{Turn}
-use Rattle.goals.specs.Records.{Ruling, cut_at, added, premise_at, row_number, Makes, Turns}
+use Rattle.goals.specs.Records.{Ruling, cut_at, added, premise_at, Makes, Turns}
 use Rattle.goals.proofs.RecordLaws.{row_zero}
 
 -- a table with the entry e at the place y

@@ -8,12 +8,12 @@ use Rattle.std.proofs.lemmas.Grind.{common_steps}
 use Rattle.alc.specs.declared.Claim.{Claim as Record}
 use Rattle.goals.specs.declared.Outcome.{Outcome}
 use Rattle.goals.specs.declared.Outcome.TheVariants.{Closes, Adds, AddsBoth, Parts}
-use Rattle.alc.specs.Shown.{number_of}
+use Rattle.alc.specs.Shown.{number_of, row_number}
 use Rattle.alc.specs.declared.refusal.Refusal.{Refusal}
 use Rattle.alc.specs.declared.refusal.Refusal.TheVariants.{TooLong, Malformed, OutOfRange, Repeated, TooMany, OtherKind, Missing, NotNew, NoGoal, GoalFull, TooManyWait, Unfinished, NotFalsified, RoomTooSmall}
 use Rattle.std.specs.Result.{IsOk}
 use Rattle.std.proofs.Common.{Result, Ok, Err}
-use Rattle.goals.specs.Records.{same_record, lacking, keeping, asks, found_in, added, cut_at, row_number}
+use Rattle.goals.specs.Records.{same_record, lacking, keeping, asks, found_in, added, cut_at}
 use denote.Enum.Bare.{sameb}
 use mathlib.Core.Bool.{and-true, or-false}
 use Rattle.alc.specs.Entries.{kind_of}

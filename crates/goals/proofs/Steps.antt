@@ -19,13 +19,13 @@ use Rattle.alc.specs.Table.{Table}
 use Rattle.alc.specs.Claims.{is, sub, link, Claim-discrete, Sided, left, right, Sided-discrete, Goal, names, claim, same, has, without}
 use Rattle.alc.specs.Rules.{Step, step_fields, Plan, plan}
 use Rattle.alc.specs.Goals.{avoids, are_new, rest, premises, step_rows}
-use Rattle.alc.specs.Shown.{record_of}
+use Rattle.alc.specs.Shown.{record_of, row_number}
 use Rattle.alc.proofs.ShownLaws.{record_once}
 use Rattle.alc.proofs.Logic.{bool_by, not_or}
 use Rattle.alc.specs.declared.Claim.{Claim as Record}
 use Rattle.goals.specs.declared.Turn.{Turn}
 use Rattle.alc.specs.declared.refusal.Refusal.{Refusal}
-use Rattle.goals.specs.Records.{same_record, has_name, lacking, keeping, added, Ruling, ruling, kept_by, record_rows, premise_at, row_number, Turns}
+use Rattle.goals.specs.Records.{same_record, has_name, lacking, keeping, added, Ruling, ruling, kept_by, record_rows, premise_at, Turns}
 use Rattle.goals.proofs.RecordLaws.{same_eq, eq_same, few_open}
 
 same_record_lem : (s t : Sided) → same_record (record_of s) (record_of t) ≡ same s t

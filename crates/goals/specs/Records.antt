@@ -10,7 +10,7 @@ use Rattle.alc.specs.Table.{Kind, Kind-discrete}
 use Rattle.alc.specs.Rules
 use Rattle.alc.specs.Rules.{Step, Plan}
 use Rattle.alc.specs.Dossier.{steps}
-use Rattle.alc.specs.Shown.{is_kind, link_kind, records, record_of, number_of}
+use Rattle.alc.specs.Shown.{is_kind, link_kind, records, record_of, row_number}
 use Rattle.alc.specs.Entries.{kind_of}
 use Rattle.alc.specs.declared.Claim.{Claim as Record}
 use Rattle.alc.specs.declared.Goal.{Goal as Records}
@@ -128,11 +128,6 @@ pub record Makes (t : Turn) (g : Records) : Type 0 where
   pub place : IfSome t.goes (λ at. at < g.count)
   pub kept : t.kept ≡ length (cut_at t.goes (records g))
   pub room : every (λ l. leb (length (cut_at t.goes (records g) ++ l)) 64) (added t.leaves) ≡ true
-
--- the number of the row that refuses; 0 where none does
-abbrev pub row_number : {A : Type 0} → Result A Refusal → ℕ
-row_number (Ok x) = 0
-row_number (Err k) = number_of k
 
 -- what a step does at the records l, whatever they are, with w goals waiting, where other rows come before those of its rule: the number of the first
 -- row that it does not pass, and where it passes all, what its premises keep and what comes last in each

@@ -4,7 +4,8 @@ use mathlib.Core.Bool.{Bool, true, false, ◌&&◌}
 use mathlib.Core.List.{List, [], ◌∷◌, ◌++◌, map}
 use mathlib.Core.Path.{◌≡◌, refl, sym, ap, ◌∙◌}
 use lib.Dec.{eqb}
-use lib.ListN.{get_or, get_or-map}
+use lib.ListN.{length, get_or, get_or-map}
+use Rattle.alc.specs.Table.{Table}
 use borrow.Author.Rules.{rules}
 use denote.Enum.Bare.{sameb, same_true}
 use Rattle.lines.specs.Text.{on_left}
@@ -74,3 +75,8 @@ pub ranges_of : (e d : ℕ) (a b c : Kind) (x y z : ℕ) → every (in_range e d
 ranges_of e d a b c x y z =
     every_append (in_range e d) (field_by a x) (field_by b y ++ field_by c z)
     ∙ ap (λ t. every (in_range e d) (field_by a x) && t) (every_append (in_range e d) (field_by b y) (field_by c z))
+
+-- what a test of a line's ranges found, with as many lines as the table has
+pub ranged_is : (T : Table) (l : Line) (n : ℕ) (b c : Bool) → n ≡ length T → b ≡ every (in_range n 0) (said_fields (saying l)) → b ≡ c
+    → every (in_range (length T) 0) (said_fields (saying l)) ≡ c
+ranged_is T l n b c m e h = ap (λ (k : ℕ). every (in_range k 0) (said_fields (saying l))) (sym m) ∙ sym e ∙ h

@@ -26,10 +26,10 @@ use Rattle.alc.specs.Rules
 use Rattle.alc.specs.Rules.{Step, step_fields, plan}
 use Rattle.alc.specs.Goals.{step_rows, premises, goals_after}
 use Rattle.alc.specs.Dossier.{step, steps, sayings, saying}
-use Rattle.alc.specs.Shown.{records, Shows}
+use Rattle.alc.specs.Shown.{records, Shows, row_number}
 use Rattle.alc.specs.Verdict.{rows, after}
 use Rattle.goals.specs.declared.Turn.{Turn}
-use Rattle.goals.specs.Records.{step_of, row_number, Ruling, Turns}
+use Rattle.goals.specs.Records.{step_of, Ruling, Turns}
 use Rattle.goals.proofs.Steps.{rule_rows, Leaves, step_rows_lem, number_shown, leaves_shown}
 use Rattle.parts.specs.Fields.{said_fields}
 use Rattle.parts.specs.Parts.{in_steps}

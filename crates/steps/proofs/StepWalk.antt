@@ -23,13 +23,13 @@ use Rattle.alc.specs.Claims.{Sided, Goal}
 use Rattle.alc.specs.Rules.{plan}
 use Rattle.alc.specs.Goals.{premises}
 use Rattle.alc.specs.Dossier.{saying}
-use Rattle.alc.specs.Shown.{records, Shows, number_of, answered}
+use Rattle.alc.specs.Shown.{records, Shows, number_of, answered, row_number}
 use Rattle.alc.specs.Verdict.{Verdict, proved, refused, rows, ending, judge}
 use Rattle.alc.specs.declared.Answer.{Answer}
 use Rattle.alc.specs.declared.refusal.Refusal.{Refusal}
 use Rattle.alc.proofs.Refusals.{number_some}
 use Rattle.goals.specs.declared.Turn.{Turn}
-use Rattle.goals.specs.Records.{added, row_number, Makes}
+use Rattle.goals.specs.Records.{added, Makes}
 use Rattle.goals.proofs.Steps.{Leaves}
 use Rattle.parts.specs.Parts.{in_steps}
 use Rattle.parts.proofs.Judging.{judge_end, judge_bad, judge_next, judge_refused}

@@ -6,12 +6,12 @@ ghost use Rattle.std.specs.List.{list_any};
 ghost use Rattle.lines.specs.Walk.{steps_from, size_from};
 ghost use Rattle.alc.specs.Rows.{refusal};
 ghost use Rattle.alc.specs.Lists.{every};
-ghost use Rattle.alc.specs.Shown.{records};
+ghost use Rattle.alc.specs.Shown.{records, row_number};
 ghost use Rattle.alc.specs.Entries.{kind_of, shown};
 ghost use Rattle.alc.specs.declared.Claim.{Claim as Record};
 ghost use Rattle.alc.specs.Table.{Table, entry};
 ghost use Rattle.alc.specs.Rules.{plan};
-ghost use Rattle.goals.specs.Records.{same_record, step_of, asks, needed_by, found_in, news_by, added, ruling, ruling_by, new_in, kept_by, record_rows, row_number, cut_at, premise_at, Makes, Turns};
+ghost use Rattle.goals.specs.Records.{same_record, step_of, asks, needed_by, found_in, news_by, added, ruling, ruling_by, new_in, kept_by, record_rows, cut_at, premise_at, Makes, Turns};
 
 use alc::{Claim, Entry, Goal, Kind, Name, Refusal};
 use goals::{Needs, Outcome, Plan, Step, Turn};

@@ -5,6 +5,7 @@ use Rattle.std.specs.Result.{IsErrAnd}
 use Rattle.lines.specs.Text.{at_steps}
 use Rattle.lines.specs.Walk.{read_at}
 use Rattle.alc.specs.Table.{Table}
+use Rattle.alc.proofs.Refusals.{handed_on}
 use Rattle.alc.specs.declared.Answer.{Answer}
 use Rattle.steps.specs.Acting.{StepAt}
 use Rattle.alc.specs.declared.Claim.{Claim as Record}
@@ -23,11 +24,6 @@ one Closes n p = absurd (n refl)
 one (Adds c) n p = refl
 one (AddsBoth c d) n p = refl
 one (Parts c d) n p = absurd (p c d refl)
-
--- an answer that is handed on is the one that was given
-handed_on : (r : Result (Unit {0}) Answer) (a : Answer) → IsErrAnd r (λ b. b ≡ a) → r ≡ Err a
-handed_on (Ok u) a h = absurd h
-handed_on (Err b) a h = ap Err h
 
 -- the derivation has ended
 ended : (text : List ℕ) (T : Table) (l : List Record) (s : State) (a : Answer) → StepAt T s (read_at text s.at at_steps) (Err a) → Stepped text T l s l s (Err a)

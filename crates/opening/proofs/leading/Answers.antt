@@ -13,7 +13,7 @@ use Rattle.alc.specs.Verdict.{refused, begin, judge}
 use Rattle.alc.specs.declared.Answer.{Answer}
 use Rattle.alc.specs.declared.Refused.{Refused}
 use Rattle.alc.proofs.ShownLaws.{all_back}
-use Rattle.alc.proofs.Refusals.{number_some}
+use Rattle.alc.proofs.Refusals.{number_some, handed_on}
 use Rattle.parts.specs.Parts.{in_claims, at_start, Listing, TableRefused, ClaimsHeard, ClaimsRefused, ClaimsLead}
 use Rattle.parts.specs.declared.Heading.{Heading}
 use Rattle.parts.specs.declared.Section.{Section}
@@ -24,11 +24,6 @@ use Rattle.states.specs.Standing.{begun_of}
 use Rattle.opening.specs.Opened.{First, Ends, Begins, Leads}
 use Rattle.opening.specs.declared.Opening.{Opening}
 use Rattle.opening.proofs.leading.Goals as goal
-
--- a refusal that is handed on is the one that was given
-handed_on : (r : Result Opening Refused) (e : Refused) → IsErrAnd r (λ f. f ≡ e) → r ≡ Err e
-handed_on (Ok o) e h = absurd h
-handed_on (Err f) e h = ap Err h
 
 -- the table is refused
 no_table : (text : List ℕ) (e : Refused) → TableRefused text e → Ends text (answered (Answer.Refused e))

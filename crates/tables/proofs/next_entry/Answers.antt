@@ -7,13 +7,9 @@ use Rattle.alc.specs.Ranges.{in_range}
 use Rattle.alc.specs.Table.{Table, stands}
 use Rattle.alc.specs.Dossier.{saying}
 use Rattle.parts.specs.Fields.{said_fields}
+use Rattle.parts.proofs.FieldLaws.{ranged_is}
 use Rattle.parts.proofs.TableLaws.{entry_5, entry_3, entry_4, entry_0}
 use Rattle.tables.proofs.next_entry.Goals as goal
-
--- what a test of the ranges found, with as many lines as the table has
-in_range_is : (T : Table) (l : Line) (n : ℕ) (b c : Bool) → n ≡ length T → b ≡ every (in_range n 0) (said_fields (saying l)) → b ≡ c
-    → every (in_range (length T) 0) (said_fields (saying l)) ≡ c
-in_range_is T l n b c m e h = ap (λ (k : ℕ). every (in_range k 0) (said_fields (saying l))) (sym m) ∙ sym e ∙ h
 
 room : (T : Table) (n : ℕ) → n ≡ length T → n < 256 → ltb (length T) 256 ≡ true
 room T n m h = ap (λ (k : ℕ). ltb k 256) (sym m) ∙ lt-ltb n 256 h
@@ -25,18 +21,18 @@ pub returns-then-not-ranged-clause-row : goal.returns-then-not-ranged-clause-row
 returns-then-not-ranged-clause-row c =
     let T = c.args.table.now in
     let m = c.len-n.ensures.count in
-    entry_3 _ _ (room T _ m c.if-n-ge256.false) (in_range_is T c.args.l _ _ _ m c.ranged.ensures c.if-not-ranged.true)
+    entry_3 _ _ (room T _ m c.if-n-ge256.false) (ranged_is T c.args.l _ _ _ m c.ranged.ensures c.if-not-ranged.true)
 
 pub returns-then-has-clause-row : goal.returns-then-has-clause-row
 returns-then-has-clause-row c =
     let T = c.args.table.now in
     let m = c.len-n.ensures.count in
-    entry_4 _ _ (room T _ m c.if-n-ge256.false) (in_range_is T c.args.l _ _ _ m c.ranged.ensures c.if-not-ranged.false)
+    entry_4 _ _ (room T _ m c.if-n-ge256.false) (ranged_is T c.args.l _ _ _ m c.ranged.ensures c.if-not-ranged.false)
     (ap (stands T) (sym c.made_entry-entry.ensures) ∙ sym c.has.ensures ∙ c.if-has.true)
 
 pub returns-clause-row : goal.returns-clause-row
 returns-clause-row c =
     let T = c.args.table.now in
     let m = c.len-n.ensures.count in
-    entry_0 _ _ (room T _ m c.if-n-ge256.false) (in_range_is T c.args.l _ _ _ m c.ranged.ensures c.if-not-ranged.false)
+    entry_0 _ _ (room T _ m c.if-n-ge256.false) (ranged_is T c.args.l _ _ _ m c.ranged.ensures c.if-not-ranged.false)
     (ap (stands T) (sym c.made_entry-entry.ensures) ∙ sym c.has.ensures ∙ c.if-has.false)
