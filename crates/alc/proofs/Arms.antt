@@ -2,10 +2,9 @@
 use mathlib.Core.Bool.{Bool, true, false, ◌||◌}
 use mathlib.Core.List.{List, [], ◌∷◌}
 use mathlib.Core.Logic.{inl, inr}
-use lib.Dec.{eqb, ltb}
-use borrow.Author.Tests.{ne_eqb, eqb-true, le-ltb}
+use borrow.Author.Tests.{ne_eqb}
 use types.Run.{OneOf}
-use Prim.Native.Nat.{ℕ, ◌≤◌, ◌<◌}
+use Prim.Native.Nat.{ℕ, ◌<◌}
 use mathlib.Core.Path.{◌≡◌, refl, sym, ◌∙◌}
 use Rattle.alc.specs.Lists.{any, elem}
 use Rattle.alc.specs.Meaning.{every_below}

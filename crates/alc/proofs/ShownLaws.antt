@@ -1,14 +1,6 @@
 -- What the code's records show is shown without loss: a claim comes back from its record. Assumes nothing.
-use Prim.Native.Nat.{ℕ, zero, suc, ◌+◌, ◌<◌}
-use native.Mathlib.Omega.{arith}
-use native.Mathlib.Decide.{ℕ_discrete}
-use native.Mathlib.Nat.{not-suc-le-zero}
-use native.Mathlib.Numerals.{add-one}
-use mathlib.Core.List.{List, [], ◌∷◌, ◌++◌, map}
+use mathlib.Core.List.{List, [], ◌∷◌, map}
 use mathlib.Core.Path.{◌≡◌, refl, sym, ap, ◌∙◌}
-use lib.ListN.{length, get_or, set, length-append, get_or-append}
-use lib.Seq.{get_or-append-add, get_or-set_same, get_or-set_other}
-use Rattle.alc.specs.Table.{Entry, entry_of}
 use Rattle.alc.specs.Claims.{is, sub, link, Sided, left, right}
 use Rattle.alc.specs.Shown.{record_of, sided_of}
 

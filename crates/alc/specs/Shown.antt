@@ -1,8 +1,8 @@
 -- How the code's records, arrays and answers show claims, goals, the table and verdicts.
 -- Assumes nothing.
-use Rattle.std.specs.Prelude.{ℕ, zero, suc, cond, List, [], ◌∷◌, ◌++◌, map, ◌≡◌, eqb, length, take, get_or, Result, Ok, Err}
+use Rattle.std.specs.Prelude.{ℕ, cond, List, [], ◌∷◌, map, ◌≡◌, eqb, take, get_or, Result, Ok, Err}
 use Rattle.lines.specs.Text.{on_left, on_right}
-use Rattle.alc.specs.Table.{Kind, Table, entry_of}
+use Rattle.alc.specs.Table.{Kind}
 use Rattle.alc.specs.Claims.{Claim, is, sub, link, Sided, left, right}
 use Rattle.alc.specs.declared.Claim.{Claim as Record}
 use Rattle.alc.specs.Verdict.{Verdict, proved, refuted, refused}

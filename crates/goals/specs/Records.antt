@@ -1,6 +1,6 @@
 -- Lists of claim records: when two are the same, which names one has, and how a rule's plan is shown by records.
 -- Assumes nothing.
-use Rattle.std.specs.Prelude.{ℕ, ◌+◌, ◌-◌, ◌<◌, Bool, true, false, not, cond, ◌&&◌, ◌||◌, List, [], ◌∷◌, ◌++◌, map, ◌≡◌, eqb, leb, length, get_or, take, drop, position, Option, Some, None, IfSome, Result, Ok, Err, IfOk}
+use Rattle.std.specs.Prelude.{ℕ, ◌+◌, ◌-◌, ◌<◌, Bool, true, false, not, cond, ◌&&◌, ◌||◌, List, [], ◌∷◌, ◌++◌, map, ◌≡◌, eqb, leb, length, get_or, take, drop, position, Option, Some, None, IfSome, Result, IfOk}
 use Rattle.std.proofs.Math.Bool.{decide}
 use Rattle.lines.specs.Walk.{steps_from}
 use Rattle.std.specs.List.{list_any}

@@ -1,7 +1,6 @@
 -- `derivation::step` meets its contract: a line that ends the derivation has the verdict, and what one that passes does to the room and the state is one
 -- of the laws of Waits, by how many premises it leaves. Assumes nothing.
-use Rattle.std.proofs.Common.{ℕ, ◌≡◌, List, length, refl, sym, ap, subst, ◌∙◌, Result, Ok, Err, arith}
-use Rattle.std.specs.Result.{IsErrAnd}
+use Rattle.std.proofs.Common.{ℕ, ◌≡◌, List, length, refl, sym, ap, subst, ◌∙◌, Ok, Err, arith}
 use Rattle.lines.specs.Text.{at_steps}
 use Rattle.lines.specs.Walk.{read_at}
 use Rattle.alc.specs.Table.{Table}

@@ -1,7 +1,6 @@
 -- `opening::leading` meets its contract: each part of the dossier is read from where the part before it ends, so the walks over the parts are one.
 -- Assumes nothing.
-use Rattle.std.proofs.Common.{ℕ, ◌≡◌, ◌≤◌, refl, sym, ap, subst, ◌∙◌, List, [], map, length, drop, true, Result, Ok, Err, arith}
-use Rattle.std.specs.Result.{IsErrAnd}
+use Rattle.std.proofs.Common.{ℕ, ◌≡◌, ◌≤◌, refl, sym, ap, subst, ◌∙◌, List, [], map, length, drop, true, Result, Ok, arith}
 use native.Mathlib.Numerals.{add-one}
 use Rattle.lines.specs.Text.{lines_of}
 use Rattle.alc.specs.Lists.{All, every}
@@ -22,7 +21,6 @@ use Rattle.parts.proofs.Through.{through_judge, through_bounds}
 use Rattle.parts.proofs.Stops.{table_refused, table_left, table_then, table_behind, table_apart, claims_bounds, claims_refused, claims_proof, claims_model, claims_apart}
 use Rattle.states.specs.Standing.{begun_of}
 use Rattle.opening.specs.Opened.{First, Ends, Begins, Leads}
-use Rattle.opening.specs.declared.Opening.{Opening}
 use Rattle.opening.proofs.leading.Goals as goal
 
 -- the table is refused

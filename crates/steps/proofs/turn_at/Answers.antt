@@ -1,16 +1,10 @@
 -- `steps::turn_at` meets its contract: the row of the ranges comes first, and behind it the step is the one that the line is, at the entry of the table.
 -- Assumes nothing.
-use Rattle.std.proofs.Common.{ℕ, ◌-◌, Bool, [], ◌≡◌, sym, ap, subst, ◌∙◌, length}
-use Rattle.lines.specs.declared.Line.{Line}
-use Rattle.alc.specs.Table.{Table}
+use Rattle.std.proofs.Common.{◌-◌, [], sym, subst}
 use Rattle.alc.specs.Rules.{plan}
 use Rattle.alc.specs.Shown.{records}
 use Rattle.goals.specs.declared.Step.{Step}
 use Rattle.goals.specs.Records.{step_of, ruling, Turns}
-use Rattle.alc.specs.Lists.{every}
-use Rattle.alc.specs.Ranges.{in_range}
-use Rattle.alc.specs.Dossier.{saying}
-use Rattle.parts.specs.Fields.{said_fields}
 use Rattle.parts.proofs.FieldLaws.{ranged_is}
 use Rattle.steps.proofs.StepLaws.{turned_3, turned}
 use Rattle.steps.proofs.turn_at.Goals as goal

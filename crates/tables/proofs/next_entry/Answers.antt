@@ -1,12 +1,7 @@
 -- `tables::next_entry` meets its contract: the tests are the rows', in their order. Assumes nothing.
-use Rattle.std.proofs.Common.{ℕ, ◌≡◌, sym, ap, ◌∙◌, ◌<◌, ltb, length, Bool, true}
+use Rattle.std.proofs.Common.{ℕ, ◌≡◌, sym, ap, ◌∙◌, ◌<◌, ltb, length, true}
 use borrow.Author.Tests.{lt-ltb, le-ltb}
-use Rattle.lines.specs.declared.Line.{Line}
-use Rattle.alc.specs.Lists.{every}
-use Rattle.alc.specs.Ranges.{in_range}
 use Rattle.alc.specs.Table.{Table, stands}
-use Rattle.alc.specs.Dossier.{saying}
-use Rattle.parts.specs.Fields.{said_fields}
 use Rattle.parts.proofs.FieldLaws.{ranged_is}
 use Rattle.parts.proofs.TableLaws.{entry_5, entry_3, entry_4, entry_0}
 use Rattle.tables.proofs.next_entry.Goals as goal
