@@ -1,78 +1,90 @@
-// The loop over a derivation's lines. The goals that wait live in the room that the caller lends; what a line does is decided in `steps`, by
-// value, and the functions here only do it to the room.
+// The loop over a derivation's lines. The goals that wait live in the room that the caller lends; what a line is, and whether it passes, `steps` says,
+// by value, and the functions here do it to the state and the room.
 #![tactic(auto)]
 
-ghost use Rattle.std.specs.Prelude.{◌≡◌, List, ◌≤◌, eqb, length, replicate};
+ghost use Rattle.std.specs.Prelude.{◌≡◌, ℕ, List, ◌≤◌, ◌<◌, length, get_or, replicate};
 ghost use Rattle.alc.specs.Claims.{Sided};
-ghost use Rattle.alc.specs.Shown.{answered, table_of, blank};
+ghost use Rattle.alc.specs.Shown.{answered, records, blank};
 ghost use Rattle.alc.specs.Verdict.{Verdict};
-ghost use Rattle.states.specs.Standing.{verdict_in};
-ghost use Rattle.steps.specs.Acting.{Ready};
-ghost use Rattle.derivation.specs.Waiting.{Stands, Stepped};
+ghost use Rattle.alc.specs.declared.Claim.{Claim as Record};
+ghost use Rattle.goals.specs.Records.{added, premise_at};
+ghost use Rattle.states.specs.Standing.{Ready};
+ghost use Rattle.derivation.specs.Waiting.{Stands, Stepped, closed_of, PutAside};
 
-use alc::{Answer, Claim};
+use alc::{Answer, Claim, Table};
+use goals::{Outcome, Turn};
 use states::State;
 
-// Whether the verdict that a state has come to is `proved`.
-fn passes(s: State) -> bool
-    ensures { result ≡ eqb s.number 0 }
+// How many records of the room each goal that waits has.
+const PLACE: usize = 64;
+
+// The current goal has closed: the one put aside last becomes current, where one waits.
+fn close(room: &[Claim], s: &mut State)
+    requires open { (0 < s.old.open) × (s.old.open ≤ 17) }
+    requires room { 1088 ≤ length room.now }
+    requires counts { (i : ℕ) → get_or s.old.counts i 0 ≤ 64 }
+    ensures { s.new ≡ closed_of room.now s.old }
 {
-    s.number == 0
+    s.open -= 1;
+    if s.open > 0 {
+        let last = s.open - 1;
+        s.goal = shelf::fetch(room, last * PLACE, s.counts[last] as usize);
+    }
 }
 
-// The answer of a state that has come to its verdict.
-fn answer_of(s: State) -> Answer
-    ensures { answered result ≡ verdict_in s }
+// The current goal is the first of two premises: the second waits.
+fn put_aside(room: &mut [Claim], s: &mut State, turn: Turn)
+    requires open { (0 < s.old.open) × (s.old.open ≤ 16) }
+    requires goal { (0 < s.old.goal.count) × (s.old.goal.count ≤ 64) }
+    requires room { 1088 ≤ length room.old }
+    ensures { PutAside room.old s.old turn room.new s.new }
 {
-    if passes(s) {
-        return Answer::Proved(s.lines);
-    }
-    Answer::Refused(s.number, s.lines)
+    let waiting = s.open - 1;
+    shelf::store(room, waiting * PLACE, &turns::other(s.goal, turn));
+    s.counts[waiting] = s.goal.count as u8;
+    s.open += 1;
 }
 
-// One line, and what it asks of the room.
-fn step(
-    room: &mut [Claim],
-    text: &[u8],
-    kinds: &[u8],
-    firsts: &[u8],
-    seconds: &[u8],
-    entries: usize,
-    s: State,
-) -> State
-    requires { (1088 ≤ length room.old) × Ready text.now kinds.now firsts.now seconds.now entries s }
-    ensures { Stepped text.now kinds.now firsts.now seconds.now entries room.old s room.new result }
+// One line: the state and the room behind it, or the answer, where the derivation ends.
+fn step(room: &mut [Claim], text: &[u8], table: &Table, s: &mut State) -> Result<(), Answer>
+    requires room { 1088 ≤ length room.old }
+    requires ready { Ready text.now s.old }
+    ensures { Stepped text.now table.now room.old s.old room.new s.new result }
 {
-    let a = steps::act_at(text, kinds, firsts, seconds, entries, s);
-    if a.kind == states::STORES {
-        let next = states::after(s, a);
-        shelf::store(room, a.base, states::aside(next, a));
-        return next;
+    let passed = steps::next_step(text, table, s)?;
+    s.steps += 1;
+    s.lines += 1;
+    s.at = passed.at;
+    match passed.turn.leaves {
+        Outcome::Closes => {
+            close(room, s);
+            Ok(())
+        }
+        Outcome::Parts(_, _) => {
+            s.goal = turns::premise(&s.goal, passed.turn);
+            put_aside(room, s, passed.turn);
+            Ok(())
+        }
+        _ => {
+            s.goal = turns::premise(&s.goal, passed.turn);
+            Ok(())
+        }
     }
-    if a.kind == states::FETCHES {
-        let goal = shelf::fetch(room, a.base, a.count as usize);
-        return states::behind(s, a, goal);
-    }
-    states::after(s, a)
 }
 
 // Judges the lines from the state s on as steps. The answer is the verdict from there on, and every record of the room is blank afterwards.
-pub fn judge_steps(
-    room: &mut [Claim],
-    text: &[u8],
-    kinds: &[u8],
-    firsts: &[u8],
-    seconds: &[u8],
-    entries: usize,
-    s: State,
-) -> Answer
-    requires { (1088 ≤ length room.old) × Ready text.now kinds.now firsts.now seconds.now entries s }
-    ensures { ((cs : List Sided) (v : Verdict) → Stands (table_of kinds.now firsts.now seconds.now entries) cs text.now v room.old s → answered result ≡ v) × (room.new ≡ replicate (length room.old) blank) }
+pub fn judge_steps(room: &mut [Claim], text: &[u8], table: &Table, s: State) -> Answer
+    requires room { 1088 ≤ length room.old }
+    requires ready { Ready text.now s }
+    ensures answer { (cs : List Sided) (v : Verdict) → Stands table.now cs text.now v room.old s → answered result ≡ v }
+    ensures room { room.new ≡ replicate (length room.old) blank }
 {
-    let mut cur = s;
-    while !cur.ended {
-        cur = step(room, text, kinds, firsts, seconds, entries, cur);
-    }
+    let mut s = s;
+    let answer = loop {
+        if let Err(answer) = step(room, text, table, &mut s) {
+            break answer;
+        }
+    };
     room::blank_all(room);
-    answer_of(cur)
+    answer
 }

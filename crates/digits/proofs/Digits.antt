@@ -2,7 +2,7 @@
 use Prim.Native.Nat.{ℕ, suc, ◌+◌, ◌-◌, ◌*◌, ◌≤◌, ◌<◌}
 use mathlib.Core.List.{List, [], ◌∷◌}
 use mathlib.Core.Path.{◌≡◌, refl, sym, ap, ◌∙◌}
-use mathlib.Core.Bool.{Bool, true, false, cond, not, ◌&&◌, ◌||◌, and-false, and_assoc, or-true}
+use mathlib.Core.Bool.{Bool, true, false, not, ◌&&◌, ◌||◌, and-false, and_assoc, or-true}
 use lib.ListN.{length, get_or, drop}
 use lib.Dec.{eqb, leb}
 use native.Mathlib.Nat.{lt_of_lt_of_le, add-zero}
@@ -10,9 +10,10 @@ use native.Mathlib.Omega.{arith}
 use borrow.Author.Tests.{leb-true, eqb-true, eqb-false, eq-eqb, ne_eqb, le-leb, lt-leb}
 use Rattle.lines.specs.Text.{every, good_byte, digit, value_from, value, leads, is_number}
 use Rattle.lines.specs.Walk.{parting, field_of}
-use Rattle.std.specs.Prelude.{Option, Some, None}
-use Rattle.digits.specs.Number.{number_in}
-use Rattle.lines.proofs.Laws.{and_left, and_right, every_more, field_none, field_here, field_on, here, past}
+use Rattle.digits.specs.Number.{num_by, number_in}
+use Rattle.digits.specs.declared.Num.{Num}
+use Rattle.digits.specs.declared.Num.TheVariants.{Is, Not}
+use Rattle.lines.proofs.Laws.{and_left, and_right, every_more, field_none, field_here, field_on, here}
 
 -- DIGITS
 pub digit_low : (d : ℕ) → digit d ≡ true → 48 ≤ d
@@ -56,8 +57,8 @@ abbrev goes_on : ℕ → List ℕ → Bool
 goes_on v ds = (none ds || not (eqb v 0)) && (every digit ds && leb (value_from v ds) 65535)
 
 -- the number whose digits before i are of value v, where xs begins at i
-unfoldable pub onward : ℕ → ℕ → List ℕ → Option (ℕ × ℕ)
-onward v i xs = cond (goes_on v (field_of xs)) (Some (value_from v (field_of xs), i + length (field_of xs))) None
+unfoldable pub onward : ℕ → ℕ → List ℕ → Num
+onward v i xs = num_by (goes_on v (field_of xs)) (value_from v (field_of xs)) (i + length (field_of xs))
 
 -- at the first digit
 zero_digit : (d : ℕ) → 48 ≤ d → eqb d 48 ≡ eqb (d - 48) 0
@@ -79,20 +80,20 @@ begins d (e ∷ ds) h =
     (and_assoc (not (eqb (d - 48) 0)) (every digit (e ∷ ds)) (leb (value_from (d - 48) (e ∷ ds)) 65535))
 
 module _ (at : ℕ) where
-  number_none : number_in at [] ≡ None
+  pub number_none : number_in at [] ≡ Not
   unfolding number_in is_number leads
   number_none = rw field_none
 
   module _ (d : ℕ) (xs : List ℕ) where
-    number_not : digit d ≡ false → number_in at (d ∷ xs) ≡ None
+    pub number_not : digit d ≡ false → number_in at (d ∷ xs) ≡ Not
     unfolding number_in is_number leads
     number_not h = go (parting d) refl
       where
-        go : (t : Bool) → parting d ≡ t → number_in at (d ∷ xs) ≡ None
+        go : (t : Bool) → parting d ≡ t → number_in at (d ∷ xs) ≡ Not
         go true e = rw (field_here d xs e)
         go false e = rw (field_on d xs e, h, and-false (leads (d ∷ field_of xs)))
 
-    number_first : digit d ≡ true → number_in at (d ∷ xs) ≡ onward (d - 48) (at + 1) xs
+    pub number_first : digit d ≡ true → number_in at (d ∷ xs) ≡ onward (d - 48) (at + 1) xs
     unfolding number_in onward
     number_first h =
         let n : at + suc (length (field_of xs)) ≡ at + 1 + length (field_of xs) = omega arith in
@@ -100,94 +101,60 @@ module _ (at : ℕ) where
 
 -- further on: at the end of the field, and at one more byte of it
 module _ (v i : ℕ) where
-  on_end : (xs : List ℕ) → field_of xs ≡ [] → v ≤ 65535 → onward v i xs ≡ Some (v, i)
+  on_end : (xs : List ℕ) → field_of xs ≡ [] → v ≤ 65535 → onward v i xs ≡ Is v i
   unfolding onward value_from
   on_end xs e h = rw (e, le-leb v 65535 h, add-zero i)
 
-  onward_none : v ≤ 65535 → onward v i [] ≡ Some (v, i)
+  pub onward_none : v ≤ 65535 → onward v i [] ≡ Is v i
   onward_none h = on_end [] field_none h
 
   module _ (d : ℕ) (xs : List ℕ) where
-    onward_parted : parting d ≡ true → v ≤ 65535 → onward v i (d ∷ xs) ≡ Some (v, i)
+    pub onward_parted : parting d ≡ true → v ≤ 65535 → onward v i (d ∷ xs) ≡ Is v i
     onward_parted e h = on_end (d ∷ xs) (field_here d xs e) h
 
     module _ (e : parting d ≡ false) where
-      onward_not : digit d ≡ false → onward v i (d ∷ xs) ≡ None
+      pub onward_not : digit d ≡ false → onward v i (d ∷ xs) ≡ Not
       unfolding onward
       onward_not h = rw (field_on d xs e, h, and-false (not (eqb v 0)))
 
-      onward_zero : v ≡ 0 → onward v i (d ∷ xs) ≡ None
+      pub onward_zero : v ≡ 0 → onward v i (d ∷ xs) ≡ Not
       unfolding onward
       onward_zero h = rw (field_on d xs e, eq-eqb v 0 h)
 
-      onward_large : 65535 < v * 10 + (d - 48) → onward v i (d ∷ xs) ≡ None
+      pub onward_large : 65535 < v * 10 + (d - 48) → onward v i (d ∷ xs) ≡ Not
       unfolding onward value_from
       onward_large h =
           let g : 65535 < value_from (v * 10 + (d - 48)) (field_of xs) = lt_of_lt_of_le h (value_grows (v * 10 + (d - 48)) (field_of xs)) in
           rw (field_on d xs e, lt-leb _ 65535 g, and-false (digit d && every digit (field_of xs)), and-false (not (eqb v 0)))
 
-      onward_more : digit d ≡ true → (v ≡ 0 → ⊥) → onward v i (d ∷ xs) ≡ onward (v * 10 + (d - 48)) (i + 1) xs
+      pub onward_more : digit d ≡ true → (v ≡ 0 → ⊥) → onward v i (d ∷ xs) ≡ onward (v * 10 + (d - 48)) (i + 1) xs
       unfolding onward value_from
       onward_more h z =
           let n : i + suc (length (field_of xs)) ≡ i + 1 + length (field_of xs) = omega arith in
           let w : v * 10 + (d - 48) ≡ 0 → ⊥ = λ p. z (omega arith) in
           rw (field_on d xs e, h, ne_eqb v 0 z, ne_eqb (v * 10 + (d - 48)) 0 w, or-true (none (field_of xs)), n)
 
--- AT A PLACE OF A TEXT: what its byte makes of the field that begins there
-module _ (text : List ℕ) (at : ℕ) where
-  opened : at < length text → number_in at (drop at text) ≡ number_in at (get_or text at 0 ∷ drop (at + 1) text)
-  opened h = ap (number_in at) (here text at h)
+-- at a place of a text, behind a 0 that leads, and where the number grows too large
+pub zero_leads : (text : List ℕ) (v i : ℕ) → i < length text → parting (get_or text i 0) ≡ false → v ≡ 0 → onward v i (drop i text) ≡ Not
+zero_leads text v i h e z = ap (onward v i) (here text i h) ∙ onward_zero v i (get_or text i 0) (drop (i + 1) text) e z
 
-  pub first_past : length text ≤ at → number_in at (drop at text) ≡ None
-  first_past h = ap (number_in at) (past text at h) ∙ number_none at
-
-  pub first_not : at < length text → digit (get_or text at 0) ≡ false → number_in at (drop at text) ≡ None
-  first_not h n = opened h ∙ number_not at (get_or text at 0) (drop (at + 1) text) n
-
-  pub first_digit : at < length text → digit (get_or text at 0) ≡ true → number_in at (drop at text) ≡ onward (get_or text at 0 - 48) (at + 1) (drop (at + 1) text)
-  first_digit h d = opened h ∙ number_first at (get_or text at 0) (drop (at + 1) text) d
-
--- and of what is left behind digits of value v
-module _ (text : List ℕ) (v i : ℕ) where
-  goes : i < length text → onward v i (drop i text) ≡ onward v i (get_or text i 0 ∷ drop (i + 1) text)
-  goes h = ap (onward v i) (here text i h)
-
-  pub ends_past : length text ≤ i → v ≤ 65535 → onward v i (drop i text) ≡ Some (v, i)
-  ends_past h m = ap (onward v i) (past text i h) ∙ onward_none v i m
-
-  pub ends_parted : i < length text → parting (get_or text i 0) ≡ true → v ≤ 65535 → onward v i (drop i text) ≡ Some (v, i)
-  ends_parted h e m = goes h ∙ onward_parted v i (get_or text i 0) (drop (i + 1) text) e m
-
-  module _ (h : i < length text) (e : parting (get_or text i 0) ≡ false) where
-    pub no_digit : digit (get_or text i 0) ≡ false → onward v i (drop i text) ≡ None
-    no_digit n = goes h ∙ onward_not v i (get_or text i 0) (drop (i + 1) text) e n
-
-    pub zero_leads : v ≡ 0 → onward v i (drop i text) ≡ None
-    zero_leads z = goes h ∙ onward_zero v i (get_or text i 0) (drop (i + 1) text) e z
-
-    pub grows_large : 65535 < v * 10 + (get_or text i 0 - 48) → onward v i (drop i text) ≡ None
-    grows_large g = goes h ∙ onward_large v i (get_or text i 0) (drop (i + 1) text) e g
-
-    pub grows : digit (get_or text i 0) ≡ true → (v ≡ 0 → ⊥) → onward v i (drop i text) ≡ onward (v * 10 + (get_or text i 0 - 48)) (i + 1) (drop (i + 1) text)
-    grows d z = goes h ∙ onward_more v i (get_or text i 0) (drop (i + 1) text) e d z
+pub grows_large : (text : List ℕ) (v i : ℕ) → i < length text → parting (get_or text i 0) ≡ false → 65535 < v * 10 + (get_or text i 0 - 48) → onward v i (drop i text) ≡ Not
+grows_large text v i h e g = ap (onward v i) (here text i h) ∙ onward_large v i (get_or text i 0) (drop (i + 1) text) e g
 
 -- WHAT THE ANSWER SAYS of the field
-by_some : (t : Bool) (v n w e : ℕ) → cond {A = Option (ℕ × ℕ)} t (Some (v, n)) None ≡ Some (w, e) → (t ≡ true) × (w ≡ v) × (e ≡ n)
-by_some true v n w e h = let q : ◌≡◌ {A = ℕ × ℕ} (v, n) (w, e) = cc in (refl, sym (ap (λ (p : ℕ × ℕ). p.0) q), sym (ap (λ (p : ℕ × ℕ). p.1) q))
-by_some false v n w e h = (cc, cc, cc)
+by_is : (t : Bool) (v n w e : ℕ) → num_by t v n ≡ Is w e → (t ≡ true) × (w ≡ v) × (e ≡ n)
+by_is true v n w e h = (refl, cc, cc)
+by_is false v n w e h = (cc, cc, cc)
 
-by_none : (t : Bool) (v n : ℕ) → cond {A = Option (ℕ × ℕ)} t (Some (v, n)) None ≡ None → t ≡ false
-by_none true v n h = cc
-by_none false v n h = refl
+by_not : (t : Bool) (v n : ℕ) → num_by t v n ≡ Not → t ≡ false
+by_not true v n h = cc
+by_not false v n h = refl
 
 module _ (at : ℕ) (xs : List ℕ) where
-  pub is_number_lem : (v e : ℕ) → number_in at xs ≡ Some (v, e) → (is_number (field_of xs) ≡ true) × (v ≡ value (field_of xs)) × (e ≡ at + length (field_of xs))
+  pub is_number_lem : (v e : ℕ) → number_in at xs ≡ Is v e → (is_number (field_of xs) ≡ true) × (v ≡ value (field_of xs)) × (e ≡ at + length (field_of xs))
   unfolding number_in
-  is_number_lem v e h = by_some (is_number (field_of xs)) (value (field_of xs)) (at + length (field_of xs)) v e h
+  is_number_lem v e h = by_is (is_number (field_of xs)) (value (field_of xs)) (at + length (field_of xs)) v e h
 
-  pub no_number : number_in at xs ≡ None → is_number (field_of xs) ≡ false
+  pub no_number : number_in at xs ≡ Not → is_number (field_of xs) ≡ false
   unfolding number_in
-  no_number h = by_none (is_number (field_of xs)) (value (field_of xs)) (at + length (field_of xs)) h
-
--- what `number` cites at each of its places
-pub ruleset bytewise = (digit_low, digit_high, first_past, first_not, first_digit, ends_past, ends_parted, no_digit, zero_leads, grows_large, grows)
+  no_number h = by_not (is_number (field_of xs)) (value (field_of xs)) (at + length (field_of xs)) h

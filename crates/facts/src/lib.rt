@@ -84,27 +84,28 @@ fn read_facts(
     let mut at = start;
     let mut n = before;
     loop {
+        let line = n + 1;
         match reading::read(text, at, IN_FACTS) {
             Next::Found(l, next) => {
                 if !parts::ranged(l, entries, model.size.count) {
                     return Err(Refused {
                         refusal: Refusal::OutOfRange,
-                        line: n + 1,
+                        line,
                     });
                 }
                 if !store(l, model) {
                     return Err(Refused {
                         refusal: Refusal::Repeated,
-                        line: n + 1,
+                        line,
                     });
                 }
-                n += 1;
                 at = next;
+                n = line;
             }
             Next::Bad => {
                 return Err(Refused {
                     refusal: Refusal::Malformed,
-                    line: n + 1,
+                    line,
                 });
             }
             Next::End => return Ok(n),
@@ -116,7 +117,7 @@ fn read_facts(
 fn ended(claims: Goal, n: usize, table: &Table, model: &Model) -> Result<usize, Refused>
     requires countable { n < 18446744073709551615 }
     requires claimed { Claimed (length table.now) claims }
-    ensures { (fs : List Fact) → Tells model.now.size.count fs model.now → concluded result ≡ modelled n (in_facts table.now (claims_in claims) model.now.size.count fs) }
+    ensures { (k : ℕ) (fs : List Fact) → Tells k fs model.now → concluded result ≡ modelled n (in_facts table.now (claims_in claims) k fs) }
 {
     let entries = table.len();
     if !truth::all_placed(claims, model) {

@@ -1,3 +1,3 @@
--- `Begins`: the rows before the first line, and what an opening comes to. `Determined`: a text has one opening.
+-- `Begins`: what an opening comes to. `Determined`: the text fixes it.
 pub mod Begins
 pub mod Determined

@@ -1,4 +1,3 @@
--- `StepLaws`: a line of the steps as a step, and its rows. `Leading`: what an act comes to. `StepWalk`: the walk over the lines.
+-- `StepLaws`: a line of the steps as a step, and its rows. `StepWalk`: what the next line comes to.
 pub mod StepLaws
-pub mod Leading
 pub mod StepWalk

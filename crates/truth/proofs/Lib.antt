@@ -1,3 +1,3 @@
--- The laws behind the functions' proofs. For callers: `claimed_more` of `Agree`.
+-- The laws behind the functions' proofs.
 pub mod ClaimLaws
 pub mod Agree

@@ -1,9 +1,11 @@
--- The verdict from the room and the state as they are is that from the beginning. The measure is what is left of the text.
-use Rattle.derivation.proofs.Waits.{Holds, left}
+-- The verdict from the room and the state as they are is that from the beginning, and a line can be read. The measure is what is left of the text.
+use Prim.Native.Nat.{◌-◌}
+use lib.ListN.{length}
+use Rattle.derivation.proofs.Waits.{Holds}
 use Rattle.derivation.proofs.judge_steps.Given as goal
 
-abbrev pub invariant-loop-cur : goal.invariant-loop-cur
-invariant-loop-cur l = Holds l.text l.kinds l.firsts l.seconds l.entries l.initial.room l.fn.s l.room l.cur
+abbrev pub invariant-loop-answer : goal.invariant-loop-answer
+invariant-loop-answer l = Holds l.text l.table l.initial.room l.fn.s l.room l.s
 
-abbrev pub decreases-loop-cur : goal.decreases-loop-cur
-decreases-loop-cur l = left l.text l.cur
+abbrev pub decreases-loop-answer : goal.decreases-loop-answer
+decreases-loop-answer l = length l.text - l.s.at
