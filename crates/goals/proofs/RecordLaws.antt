@@ -1,6 +1,6 @@
 -- Records of claims: equal number for number is equal, so looking for a record among those of a goal is looking for its claim; and what is dropped is
 -- the first copy, where one is found. Assumes nothing.
-use Rattle.std.proofs.Common.{ℕ, ◌<◌, suc, ◌+◌, ◌≤◌, Bool, true, false, not, cond, ◌||◌, List, [], ◌∷◌, ◌≡◌, refl, length, ltb, arith, Some, None, position}
+use Rattle.std.proofs.Common.{ℕ, ◌<◌, suc, ◌+◌, ◌≤◌, Bool, true, false, not, cond, ◌||◌, List, [], ◌∷◌, ◌≡◌, refl, length, ltb, arith, Some, None, position, Result, Ok, Err}
 use borrow.Author.Tests.{lt-ltb}
 use Rattle.std.specs.List.{list_any, position_or_len}
 use Rattle.std.specs.Option.{is_some}
@@ -12,7 +12,6 @@ use Rattle.alc.specs.Shown.{number_of}
 use Rattle.alc.specs.declared.refusal.Refusal.{Refusal}
 use Rattle.alc.specs.declared.refusal.Refusal.TheVariants.{TooLong, Malformed, OutOfRange, Repeated, TooMany, OtherKind, Missing, NotNew, NoGoal, GoalFull, TooManyWait, Unfinished, NotFalsified, RoomTooSmall}
 use Rattle.std.specs.Result.{IsOk}
-use Rattle.std.proofs.Common.{Result, Ok, Err}
 use Rattle.goals.specs.Records.{same_record, lacking, keeping, asks, found_in, added, cut_at, row_number}
 use denote.Enum.Bare.{sameb}
 use mathlib.Core.Bool.{and-true, or-false}

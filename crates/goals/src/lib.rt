@@ -71,7 +71,7 @@ pub struct Turn {
     pub leaves: Outcome,
 }
 
-// Whether two claims are the same. The concept that differs most often is looked at first: by `==` alone a search costs twice as much.
+// Whether two claims are the same. Their first concepts, which differ most often, are compared first: by `==` alone a search costs twice as much.
 #[tactic(auto, unfolding(crate::specs::Records::same_record))]
 fn same(c: Claim, d: &Claim) -> bool
     ensures { result ≡ same_record c d.now }

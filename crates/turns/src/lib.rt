@@ -136,8 +136,8 @@ fn turned(g: &Goal, p: Plan, kind: Kind, waiting: usize) -> Result<Turn, Refusal
     let kept = staying(claims, goes);
     refused(claims, p, kind, at, kept, waiting)?;
     Ok(Turn {
-        goes: goes,
-        kept: kept,
+        goes,
+        kept,
         leaves: p.leaves,
     })
 }
