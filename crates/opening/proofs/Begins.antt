@@ -2,24 +2,23 @@
 -- begins, the judge is where the walk to it ends. Assumes nothing.
 use Prim.Native.Nat.{ℕ, zero, suc, ◌≤◌, ◌<◌}
 use mathlib.Core.List.{List, [], ◌∷◌}
-use mathlib.Core.Path.{◌≡◌, refl, sym, ap, subst, ◌∙◌}
+use mathlib.Core.Path.{◌≡◌, sym, ap, subst, ◌∙◌}
 use native.Mathlib.Omega.{arith}
-use lib.ListN.{length, length-replicate}
+use lib.ListN.{length, drop, length-replicate}
 use borrow.Author.Tests.{lt-leb, le-leb}
 use Rattle.lines.specs.Text.{lines_of}
 use Rattle.alc.specs.Rows.{refusal}
 use Rattle.alc.specs.Table.{Table}
-use Rattle.alc.specs.Claims.{Sided}
 use Rattle.alc.specs.Shown.{answered}
 use Rattle.alc.specs.Verdict.{Verdict, refused, judge, begin, outer_rows, verdict}
 use Rattle.alc.specs.declared.Answer.{Answer}
 use Rattle.alc.specs.declared.Goal.{Goal as Records}
 use Rattle.alc.proofs.ListFacts.{zeros}
+use Rattle.parts.specs.Parts.{in_steps}
 use Rattle.parts.proofs.Through.{through_judge, through_bounds}
 use Rattle.states.specs.Standing.{begun_of, no_counts, Ready}
 use Rattle.states.specs.declared.State.{State}
-use Rattle.steps.specs.Acting.{from}
-use Rattle.opening.specs.Opened.{Begins, Ends, Following, Deciding}
+use Rattle.opening.specs.Opened.{Ends, Following, Deciding}
 
 -- what follows the rows
 abbrev next : List ℕ → ℕ → Verdict
@@ -69,8 +68,8 @@ module _ (n : ℕ) (text : List ℕ) (T : Table) (s : State) (b : Following n te
   pub begins_alone : s.open ≡ 1
   begins_alone = ap (λ (r : State). r.open) b.begins.state
 
-  pub begins_so : verdict n text ≡ from T b.begins.cs text s (b.begins.cs ∷ [])
+  pub begins_so : verdict n text ≡ judge s.lines (in_steps T b.begins.cs s.steps (b.begins.cs ∷ [])) (lines_of (drop s.at text))
   begins_so =
       verdict_short n text b.wide b.short
       ∙ through_judge b.begins.walk
-      ∙ ap (λ (r : State). from T b.begins.cs text r (b.begins.cs ∷ [])) (sym b.begins.state)
+      ∙ ap (λ (r : State). judge r.lines (in_steps T b.begins.cs r.steps (b.begins.cs ∷ [])) (lines_of (drop r.at text))) (sym b.begins.state)
