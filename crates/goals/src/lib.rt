@@ -71,20 +71,12 @@ pub struct Turn {
     pub leaves: Outcome,
 }
 
-// Whether two claims are the same. Their first concepts, which differ most often, are compared first: by `==` alone a search costs twice as much.
+// The place of the first copy of a claim, if there is one.
 #[tactic(auto, unfolding(crate::specs::Records::same_record))]
-fn same(c: Claim, d: &Claim) -> bool
-    ensures { result ≡ same_record c d.now }
-{
-    d.i == c.i && *d == c
-}
-
-// The place of the first copy of a claim, if there is one. Not part of its caller: there each use of the place would be carried along the search.
-#[inline(never)]
 pub fn find(claims: &[Claim], c: Claim) -> Option<usize>
     ensures { result ≡ position (same_record c) claims.now }
 {
-    claims.iter().position(|d| same(c, d))
+    claims.iter().position(|d| *d == c)
 }
 
 // Whether a record is of an `is` or a `link` with the name.
@@ -107,10 +99,11 @@ pub fn occurs(claims: &[Claim], a: Name) -> bool
 }
 
 // Whether the claim is there.
+#[tactic(auto, unfolding(crate::specs::Records::same_record))]
 pub fn has(claims: &[Claim], c: Claim) -> bool
     ensures { result ≡ list_any (same_record c) claims.now }
 {
-    claims.iter().any(|d| same(c, d))
+    claims.contains(&c)
 }
 
 // A goal with no claim.
