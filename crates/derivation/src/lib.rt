@@ -61,12 +61,12 @@ fn step(room: &mut [Claim], text: &[u8], table: &Table, s: &mut State) -> Result
             Ok(())
         }
         Outcome::Parts(_, _) => {
-            s.goal = turns::premise(&s.goal, passed.turn);
+            turns::turn(&mut s.goal, passed.turn);
             put_aside(room, s, passed.turn);
             Ok(())
         }
         _ => {
-            s.goal = turns::premise(&s.goal, passed.turn);
+            turns::turn(&mut s.goal, passed.turn);
             Ok(())
         }
     }

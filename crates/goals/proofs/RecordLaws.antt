@@ -1,6 +1,6 @@
 -- Records of claims: equal number for number is equal, so looking for a record among those of a goal is looking for its claim; and what is dropped is
 -- the first copy, where one is found. Assumes nothing.
-use Rattle.std.proofs.Common.{suc, ◌+◌, ◌≤◌, Bool, true, false, not, cond, ◌||◌, List, [], ◌∷◌, ◌≡◌, refl, length, ltb, arith, Some, None, position}
+use Rattle.std.proofs.Common.{ℕ, ◌<◌, suc, ◌+◌, ◌≤◌, Bool, true, false, not, cond, ◌||◌, List, [], ◌∷◌, ◌≡◌, refl, length, ltb, arith, Some, None, position, Result, Ok, Err}
 use borrow.Author.Tests.{lt-ltb}
 use Rattle.std.specs.List.{list_any, position_or_len}
 use Rattle.std.specs.Option.{is_some}
@@ -88,3 +88,10 @@ named RoomTooSmall h = omega arith
 pub row_zero : {A : Type 0} (r : Result A Refusal) → row_number r ≡ 0 → IsOk r
 row_zero (Ok x) e = refl
 row_zero (Err k) e = absurd (named k e)
+
+-- where a goal is not full the claim comes
+pub with_more : {A : Type 0} (n : ℕ) (x y z : A) → n < 64 → x ≡ cond (ltb n 64) y z → x ≡ y
+with_more n x y z h e = rw (lt-ltb n 64 h) at e
+
+pub with_count : (n m : ℕ) → n ≤ 64 → m ≡ cond (ltb n 64) (n + 1) n → m ≤ 64
+with_count n m h e = grind (arith, common_steps)

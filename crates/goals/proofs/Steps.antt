@@ -9,7 +9,7 @@ use mathlib.Core.List.{List, [], ◌∷◌, ◌++◌, map}
 use mathlib.Core.Path.{◌≡◌, refl, sym, ap, ap₂, ◌∙◌}
 use lib.Dec.{eqb, ltb, leb}
 use lib.ListN.{length, get_or, length-map, length-append}
-use borrow.Author.Tests.{eqb-true, eq-eqb, leb-true}
+use Rattle.std.proofs.lemmas.Grind.{common_steps}
 use Rattle.std.proofs.Common.{Result, Ok}
 use Rattle.std.specs.List.{list_any}
 use Rattle.alc.specs.Lists.{every, elem}
@@ -59,26 +59,14 @@ keeping_record true [] cs = refl
 keeping_record true (s ∷ ns) cs = lacking_record s cs
 
 -- names
-pub eqb_turn : (a b : ℕ) → eqb a b ≡ eqb b a
-eqb_turn a b = bool_by (eqb a b) (eqb b a) (λ h. eq-eqb b a (sym (eqb-true a b h))) (λ h. eq-eqb a b (sym (eqb-true b a h)))
-
-lone : (b : Bool) → not b ≡ (not (b || false) && true)
-lone true = refl
-lone false = refl
-
-pair : (b c : Bool) → not (b || c) ≡ (not (b || false) && (not (c || false) && true))
-pair true c = refl
-pair false true = refl
-pair false false = refl
-
 name_claim : (a : ℕ) (s : Sided) → not (has_name a (record_of s)) ≡ avoids (a ∷ []) s
 unfolding has_name
-name_claim a (left (is x i)) = rw (or-false (eqb a x), eqb_turn a x) (lone (eqb x a))
+name_claim a (left (is x i)) = grind (arith, common_steps)
 name_claim a (left (sub i j)) = refl
-name_claim a (left (link r x y)) = rw (eqb_turn a x, eqb_turn a y) (pair (eqb x a) (eqb y a))
-name_claim a (right (is x i)) = rw (or-false (eqb a x), eqb_turn a x) (lone (eqb x a))
+name_claim a (left (link r x y)) = grind (arith, common_steps)
+name_claim a (right (is x i)) = grind (arith, common_steps)
 name_claim a (right (sub i j)) = refl
-name_claim a (right (link r x y)) = rw (eqb_turn a x, eqb_turn a y) (pair (eqb x a) (eqb y a))
+name_claim a (right (link r x y)) = grind (arith, common_steps)
 
 any_names : (a : ℕ) (cs : List Sided) → not (list_any (has_name a) (map record_of cs)) ≡ every (avoids (a ∷ [])) cs
 any_names a [] = refl
@@ -88,13 +76,7 @@ any_names a (s ∷ cs) = not_or (has_name a (record_of s)) (list_any (has_name a
 module _ {A : Type 0} (f g h : A → Bool) (e : (x : A) → h x ≡ (f x && g x)) where
   every_both : (l : List A) → every h l ≡ (every f l && every g l)
   every_both [] = refl
-  every_both (x ∷ l) = rw (e x, every_both l) (swap (f x) (g x) (every f l) (every g l))
-    where
-      swap : (a b c d : Bool) → ((a && b) && (c && d)) ≡ ((a && c) && (b && d))
-      swap true true c d = refl
-      swap true false true d = refl
-      swap true false false d = refl
-      swap false b c d = refl
+  every_both (x ∷ l) = rw (e x, every_both l) (grind (arith, common_steps))
 
 every_true : {A : Type 0} (f : A → Bool) → ((x : A) → f x ≡ true) → (l : List A) → every f l ≡ true
 every_true f e [] = refl
@@ -148,41 +130,14 @@ unfolding step_rows rule_rows
 step_rows_lem T n g gs s = rw (length-append (premises (plan T s) g) gs)
 
 -- where no row fails no premise is too long, and at most 17 goals are open
-cond_zero : (b : Bool) (x n : ℕ) → (n ≡ 0 → ⊥) → cond b x n ≡ 0 → (b ≡ true) × (x ≡ 0)
-cond_zero true x n h e = (refl, e)
-cond_zero false x n h e = absurd (h e)
-
 module _ (u : Ruling) (l : List Record) (w : ℕ) (e : refusal (record_rows u l w) ≡ 0) where
-  past_8 : ◌≡◌ {A = ℕ} (cond (every (λ r. leb (length (kept_by u l ++ r)) 64) u.comes) (cond (leb (length u.comes + w) 17) 0 11) 10) 0
-  unfolding record_rows
-  past_8 =
-      let e6 = cond_zero u.asked _ 6 six e in
-      let e7 = cond_zero (every (λ c. list_any (same_record c) l) u.needed) _ 7 seven e6.1 in
-      (cond_zero _ _ 8 eight e7.1).1
-    where
-      six : ◌≡◌ {A = ℕ} 6 0 → ⊥
-      six h = omega arith
-
-      seven : ◌≡◌ {A = ℕ} 7 0 → ⊥
-      seven h = omega arith
-
-      eight : ◌≡◌ {A = ℕ} 8 0 → ⊥
-      eight h = omega arith
-
-  past_10 : (every (λ r. leb (length (kept_by u l ++ r)) 64) u.comes ≡ true) × ◌≡◌ {A = ℕ} (cond (leb (length u.comes + w) 17) 0 11) 0
-  past_10 = cond_zero _ (cond (leb (length u.comes + w) 17) 0 11) 10 ten past_8
-    where
-      ten : ◌≡◌ {A = ℕ} 10 0 → ⊥
-      ten h = omega arith
-
   pub all_small : every (λ r. leb (length (kept_by u l ++ r)) 64) u.comes ≡ true
-  all_small = past_10.0
+  unfolding record_rows
+  all_small = grind (arith, common_steps)
 
   pub all_open : length u.comes + w ≤ 17
-  all_open = leb-true _ 17 (cond_zero (leb (length u.comes + w) 17) 0 11 eleven past_10.1).0
-    where
-      eleven : ◌≡◌ {A = ℕ} 11 0 → ⊥
-      eleven h = omega arith
+  unfolding record_rows
+  all_open = grind (arith, common_steps)
 
 -- the premises of a turn, by their count
 leaves_of : (l : List Record) (t : Turn) (ps : List Goal) → length (added t.leaves) ≡ length ps → length ps ≤ 2

@@ -20,11 +20,11 @@ fn keeps(kind: Option<Kind>, needs: Needs, leaves: Outcome) -> Plan
     ensures { result ≡ record { kind = kind; needs = needs; drops = false; fresh = None; leaves = leaves } }
 {
     Plan {
-        kind: kind,
-        needs: needs,
+        kind,
+        needs,
         drops: false,
         fresh: None,
-        leaves: leaves,
+        leaves,
     }
 }
 
@@ -33,11 +33,11 @@ fn drops(kind: Option<Kind>, need: Claim, leaves: Outcome) -> Plan
     ensures { result ≡ record { kind = kind; needs = Needs.One need; drops = true; fresh = None; leaves = leaves } }
 {
     Plan {
-        kind: kind,
+        kind,
         needs: One(need),
         drops: true,
         fresh: None,
-        leaves: leaves,
+        leaves,
     }
 }
 

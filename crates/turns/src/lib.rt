@@ -136,8 +136,8 @@ fn turned(g: &Goal, p: Plan, kind: Kind, waiting: usize) -> Result<Turn, Refusal
     let kept = staying(claims, goes);
     refused(claims, p, kind, at, kept, waiting)?;
     Ok(Turn {
-        goes: goes,
-        kept: kept,
+        goes,
+        kept,
         leaves: p.leaves,
     })
 }
@@ -153,41 +153,39 @@ pub fn turn_of(g: &Goal, s: Step, e: Entry, waiting: usize) -> Result<Turn, Refu
     turned(g, rules::plan_of(s, e), e.kind, waiting)
 }
 
-// The goal without the claim at a place, if one goes, so that so many stay: those behind it move up.
+// Takes out the claim at a place, if one goes, so that so many stay: those behind it move up.
 #[tactic(auto, using(crate::proofs::Cuts::cut_within, crate::proofs::Cuts::cut_count, crate::proofs::Cuts::cut_none))]
-fn cut(g: &Goal, goes: Option<usize>, kept: usize) -> Goal
-    requires few { g.now.count ≤ 64 }
-    requires place { IfSome goes (λ at. at < g.now.count) }
-    requires stay { kept ≡ length (cut_at goes (records g.now)) }
-    ensures shows { records result ≡ cut_at goes (records g.now) }
-    ensures count { result.count ≡ kept }
+fn cut(g: &mut Goal, goes: Option<usize>, kept: usize)
+    requires few { g.old.count ≤ 64 }
+    requires place { IfSome goes (λ at. at < g.old.count) }
+    requires stay { kept ≡ length (cut_at goes (records g.old)) }
+    ensures shows { records g.new ≡ cut_at goes (records g.old) }
+    ensures count { g.new.count ≡ kept }
 {
-    let mut out = *g;
-    out.count = kept;
+    let n = g.count;
+    g.count = kept;
     if let Some(at) = goes {
-        out.claims.copy_within(at + 1..g.count, at);
+        g.claims.copy_within(at + 1..n, at);
     }
-    out
 }
 
-// The first premise that the turn makes of the goal g: what comes is written behind what stays.
-pub fn premise(g: &Goal, t: Turn) -> Goal
-    requires few { g.now.count ≤ 64 }
-    requires makes { Makes t g.now }
-    ensures shows { records result ≡ premise_at 0 t (records g.now) }
-    ensures few { result.count ≤ 64 }
-    ensures count { result.count ≡ t.kept + length (get_or (added t.leaves) 0 []) }
+// Makes the goal the first premise of the turn: what comes is written behind what stays.
+pub fn turn(g: &mut Goal, t: Turn)
+    requires few { g.old.count ≤ 64 }
+    requires makes { Makes t g.old }
+    ensures shows { records g.new ≡ premise_at 0 t (records g.old) }
+    ensures few { g.new.count ≤ 64 }
+    ensures count { g.new.count ≡ t.kept + length (get_or (added t.leaves) 0 []) }
 {
-    let mut out = cut(g, t.goes, t.kept);
+    cut(g, t.goes, t.kept);
     match t.leaves {
         Outcome::Closes => {}
-        Outcome::Adds(c) | Outcome::Parts(c, _) => goals::push(&mut out, c),
+        Outcome::Adds(c) | Outcome::Parts(c, _) => goals::push(g, c),
         Outcome::AddsBoth(c, d) => {
-            goals::push(&mut out, c);
-            goals::push(&mut out, d);
+            goals::push(g, c);
+            goals::push(g, d);
         }
     }
-    out
 }
 
 // The second of two premises, from the first: they differ in the last claim alone.

@@ -34,8 +34,8 @@ returns-in_err-passed c =
     (sym (handed_on c.from_residual.result c.in_err-passed.field-0.0 c.from_residual.ensures.1))
     (ended c.args.text.now c.args.table.now c.args.room.now c.args.s.now c.in_err-passed.field-0.0 c.in_err-passed.ensures)
 
-pub premise-s-requires-clause-makes : goal.premise-s-requires-clause-makes
-premise-s-requires-clause-makes c = (goes _ _ _ _ c.in_ok-passed.ensures).makes
+pub turn-requires-clause-makes : goal.turn-requires-clause-makes
+turn-requires-clause-makes c = (goes _ _ _ _ c.in_ok-passed.ensures).makes
 
 pub put_aside-requires-clause-open : goal.put_aside-requires-clause-open
 put_aside-requires-clause-open c =
@@ -43,8 +43,8 @@ put_aside-requires-clause-open c =
     let n = ap (λ (o : Outcome). length (added o)) c.in-Parts.is in
     (q.some, omega (arith, q.few, q.some, n))
 
-pub premise-s-requires-in_default-clause-makes : goal.premise-s-requires-in_default-clause-makes
-premise-s-requires-in_default-clause-makes c = (goes _ _ _ _ c.in_ok-passed.ensures).makes
+pub turn-requires-in_default-clause-makes : goal.turn-requires-in_default-clause-makes
+turn-requires-in_default-clause-makes c = (goes _ _ _ _ c.in_ok-passed.ensures).makes
 
 pub returns-in-Closes : goal.returns-in-Closes
 returns-in-Closes c =
@@ -54,9 +54,9 @@ returns-in-Closes c =
 pub returns-in-Parts : goal.returns-in-Parts
 returns-in-Parts c =
     two_more _ _ _ c.requires.room c.requires.ready _ _ (goes _ _ _ _ c.in_ok-passed.ensures) _ _ _ (ap (λ (o : Outcome). length (added o)) c.in-Parts.is)
-    c.premise-s.ensures.shows c.premise-s.ensures.few c.put_aside.ensures
+    c.turn.ensures.shows c.turn.ensures.few c.put_aside.ensures
 
 pub returns-in_default : goal.returns-in_default
 returns-in_default c =
     one_more _ _ _ c.requires.room c.requires.ready _ _ (goes _ _ _ _ c.in_ok-passed.ensures) _ (one _ c.in_default.not-Closes c.in_default.not-Parts)
-    c.premise-s-in_default.ensures.shows c.premise-s-in_default.ensures.few
+    c.turn-in_default.ensures.shows c.turn-in_default.ensures.few
