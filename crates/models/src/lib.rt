@@ -76,18 +76,18 @@ impl Model {
     }
 
     // The elements of an atom.
-    pub fn elements(&self, a: Atom) -> Set
-        requires { a.0 < 64 }
-        ensures { (d : ℕ) → bit result d ≡ (world_of self.now).atoms a.0 d }
+    pub fn elements(&self, atom: Atom) -> Set
+        requires { atom.0 < 64 }
+        ensures { (d : ℕ) → bit result d ≡ (world_of self.now).atoms atom.0 d }
     {
-        self.atoms[a.0 as usize]
+        self.atoms[atom.0 as usize]
     }
 
     // The elements to which a role leads from an element.
-    pub fn successors(&self, r: Role, d: Element) -> Set
-        requires { (r.0 < 16) × (d.0 < 32) }
-        ensures { (e : ℕ) → bit result e ≡ (world_of self.now).roles r.0 d.0 e }
+    pub fn successors(&self, role: Role, from: Element) -> Set
+        requires { (role.0 < 16) × (from.0 < 32) }
+        ensures { (e : ℕ) → bit result e ≡ (world_of self.now).roles role.0 from.0 e }
     {
-        self.edges[(r.0 as usize) * 32 + (d.0 as usize)]
+        self.edges[(role.0 as usize) * 32 + (from.0 as usize)]
     }
 }
