@@ -70,9 +70,13 @@ module _ (l : Line) (t : Told l) (w : facts_from ≤ l.word) where
     fact_ranges : every (in_range e k) (fact_fields (fact_in l)) ≡ true
     fact_ranges = ap (λ s. every (in_range e k) (said_fields s)) (sym fact_said) ∙ h
 
-    -- so the fact is one that can be stored
+    -- so the fact is of k elements
     pub fact_fits : All (Below 0 k) (fact_fields (fact_in l))
     fact_fits = fact_below e k k (omega arith) (fact_in l) (in_range_lem e k (fact_fields (fact_in l)) fact_ranges)
+
+    -- and is one that can be stored
+    pub fact_small : All (Below 0 32) (fact_fields (fact_in l))
+    fact_small = fact_below 0 k 32 lk (fact_in l) fact_fits
 
   -- the rows of a fact, read from the top
   module _ (T : Table) (cs : List Sided) (e k : ℕ) (fs : List Fact) (long : length T ≡ e) where
@@ -100,10 +104,11 @@ pub fact_at : (l : Line) (w : ℕ) → l.word ≡ w → fact_in l ≡ fact_by w 
 fact_at l w e = ap (λ k. fact_by k (l.n0 % 256) (l.n1 % 256) (l.n2 % 256)) e
 
 -- what is stored: the fact f, whatever stands before it
-module _ (f : Fact) (m new : Model) (r : Bool) (n : ℕ) (fs : List Fact) (t : Tells n fs m) where
+module _ (f : Fact) (m new : Model) (r : Bool) (n : ℕ) (fs : List Fact) (low : All (Below 0 n) (fact_fields f)) (t : Tells n fs m) where
   pub place_stored : (a d : ℕ) → f ≡ places a d → PlaceSet m new a d r → Stored n fs f new r
   place_stored a d e s =
-      subst (λ h. Stored n fs h new r) (sym e) (record { answer = place_answer n fs m t new r a d s; told = place_told n fs m t new r a d s })
+      let b : All (Below 0 n) (fact_fields (places a d)) = subst (λ h. All (Below 0 n) (fact_fields h)) e low in
+      subst (λ h. Stored n fs h new r) (sym e) (record { answer = place_answer n fs m t new r a d s; told = place_told n fs m t new r a d b.1.0 s })
 
   pub atom_stored : (A d : ℕ) → f ≡ has A d → AtomSet m new A d r → Stored n fs f new r
   atom_stored A d e s =

@@ -24,7 +24,7 @@ use Rattle.facts.specs.Asked.{in_facts, fact_in, Stored}
 use Rattle.facts.specs.Read.{Judged, Left}
 use Rattle.models.specs.declared.Model.{Model}
 use Rattle.alc.specs.Meaning.{World}
-use Rattle.facts.proofs.FactLaws.{found_told, fact_word, fact_said, fact_fits, fact_3, fact_4, fact_0}
+use Rattle.facts.proofs.FactLaws.{found_told, fact_word, fact_said, fact_fits, fact_small, fact_3, fact_4, fact_0}
 
 -- a model that tells facts of n elements has n
 told_size : (n : ℕ) (fs : List Fact) (m : Model) → Tells n fs m → m.size.count ≡ n
@@ -74,8 +74,11 @@ module _ (text : List ℕ) (start before entries size : ℕ) (m : Model) (le : e
         ∙ ap (refused 3) (sym (add-one n))
 
     module _ (h : every (in_range entries m.size.count) (said_fields (saying l)) ≡ true) where
-      pub line_fits : (facts_from ≤ l.word) × (l.word < word_count) × All (Below 0 m.size.count) (fact_fields (fact_in l))
-      line_fits = (w, t.known, fact_fits l t w entries m.size.count le m.size.sized.most h)
+      pub line_small : (facts_from ≤ l.word) × (l.word < word_count) × All (Below 0 32) (fact_fields (fact_in l))
+      line_small = (w, t.known, fact_small l t w entries size le few (in_size true h))
+
+      pub line_fits : All (Below 0 size) (fact_fields (fact_in l))
+      line_fits = fact_fits l t w entries size le few (in_size true h)
 
       module _ (new : Model) (fresh : Bool) (s : Stored size v.facts (fact_in l) new fresh) where
         pub stops_repeat : fresh ≡ false → Judged text start before entries size (λ T cs. refused 4 (n + 1))

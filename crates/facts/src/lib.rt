@@ -10,6 +10,7 @@ ghost use Rattle.alc.specs.Model.{Fact, fact_fields};
 ghost use Rattle.alc.specs.Shown.{claims_in, answered};
 ghost use Rattle.alc.specs.Verdict.{judge, modelled};
 ghost use Rattle.parts.specs.Parts.{at_start};
+ghost use Rattle.models.specs.Arrays.{Inside};
 ghost use Rattle.models.specs.Shown.{Below, Claimed};
 ghost use Rattle.models.specs.Told.{Tells};
 ghost use Rattle.facts.specs.Asked.{Asked, in_facts, fact_in, Stored};
@@ -22,8 +23,8 @@ use sets::Size;
 
 // Stores the fact that a line is, by its word, and says whether it repeats nothing.
 fn store(l: Line, model: &mut Model) -> bool
-    requires { (facts_from ≤ l.word) × (l.word < word_count) × All (Below 0 model.old.size.count) (fact_fields (fact_in l)) }
-    ensures { (n : ℕ) (fs : List Fact) → Tells n fs model.old → Stored n fs (fact_in l) model.new result }
+    requires { (facts_from ≤ l.word) × (l.word < word_count) × All (Below 0 32) (fact_fields (fact_in l)) }
+    ensures { (n : ℕ) (fs : List Fact) → All (Below 0 n) (fact_fields (fact_in l)) → Tells n fs model.old → Stored n fs (fact_in l) model.new result }
 {
     let x = (l.n0 % 256) as u8;
     let y = (l.n1 % 256) as u8;
@@ -117,6 +118,7 @@ fn read_facts(
 fn ended(claims: Goal, n: usize, table: &Table, model: &Model) -> Result<usize, Refused>
     requires countable { n < 18446744073709551615 }
     requires claimed { Claimed (length table.now) claims }
+    requires inside { Inside model.now.size.count model.now.places }
     ensures { (k : ℕ) (fs : List Fact) → Tells k fs model.now → concluded result ≡ modelled n (in_facts table.now (claims_in claims) k fs) }
 {
     let entries = table.len();

@@ -1,24 +1,23 @@
 -- A model tells the facts that the lines say: each line adds to both sides alike, since a fact is said among more facts just if it was said
 -- among the first or is the last.
 -- Assumes nothing.
-use Prim.Native.Nat.{ℕ}
+use Prim.Native.Nat.{ℕ, ◌<◌}
 use native.Mathlib.Decide.{ℕ_discrete}
 use mathlib.Core.Bool.{Bool, true, false, not, cond, decide, ◌&&◌, ◌||◌, false≢true, or-false}
 use mathlib.Core.List.{List, [], ◌∷◌, ◌++◌, append-nil, append_assoc}
 use mathlib.Core.Path.{◌≡◌, refl, sym, ap, ap₂, ◌∙◌, fun_ext}
-use lib.Dec.{eqb}
-use lib.ListN.{get_or}
+use lib.Dec.{eqb, ltb}
 use borrow.Author.Tests.{eq-eqb, ne_eqb, eqb-true}
 use Rattle.alc.specs.Lists.{every, is_empty}
 use Rattle.alc.specs.Meaning.{World}
-use Rattle.alc.specs.Claims.{Sided, claim, names}
-use Rattle.alc.specs.Model.{Fact, Fact-discrete, places, has, edge, is_said, places_of, places_in, repeats, interp_of, all_placed}
+use Rattle.alc.specs.Model.{Fact, Fact-discrete, places, has, edge, is_said, places_of, places_in, repeats, interp_of}
 use Rattle.alc.proofs.Logic.{both_true}
 use Rattle.alc.proofs.ListFacts.{any_more}
 use Rattle.models.specs.Arrays.{seats_of}
-use Rattle.models.specs.Shown.{interp_shown, all_seated, with_atom, with_edge, PlaceSet, AtomSet, EdgeSet}
+use Rattle.models.specs.Shown.{with_atom, with_edge, PlaceSet, AtomSet, EdgeSet}
 use Rattle.models.specs.declared.Model.{Model}
 use Rattle.models.specs.Told.{Tells}
+use Rattle.models.proofs.Stores.{inside_put}
 
 -- two facts are equal just if they are of one word and their numbers are equal
 decide_is : {P : Type 0} (d : Dec P) (b : Bool) → (P → b ≡ true) → (b ≡ true → P) → decide d ≡ b
@@ -86,14 +85,6 @@ module _ (n : ℕ) (fs : List Fact) where
       (fun_ext (λ s. fun_ext (λ f. fun_ext (λ g. sym (said_more (edge r d e) (edge s f g) (eqb r s && (eqb d f && eqb e g)) (same_edge r d e s f g))))))
 
 module _ (n : ℕ) (fs : List Fact) (m : Model) (t : Tells n fs m) where
-  -- the interpretation that the model shows is that of the facts
-  pub told_interp : interp_shown m ≡ interp_of n fs
-  told_interp = ap₂ (λ (W : World) (S : ℕ → List ℕ). record { world = W; place = λ a. get_or (S a) 0 0 }) t.world (fun_ext t.seats)
-
-  -- every name in the claims is placed by the facts
-  pub told_placed : (cs : List Sided) → all_seated m cs ≡ all_placed fs cs
-  told_placed cs = ap (λ (S : ℕ → List ℕ). every (λ s. every (λ a. not (is_empty (S a))) (names (claim s))) cs) (fun_ext t.seats)
-
   module _ (new : Model) (r : Bool) where
     -- `has A d`: the answer says whether it repeats nothing, and the model tells it besides
     pub atom_answer : (A d : ℕ) → AtomSet m new A d r → r ≡ not (repeats fs (has A d))
@@ -103,6 +94,7 @@ module _ (n : ℕ) (fs : List Fact) (m : Model) (t : Tells n fs m) where
     atom_told A d s = record {
       world = s.world ∙ ap (λ (W : World). with_atom W A d) t.world ∙ world_atom n fs A d;
       seats = λ a. s.seats a ∙ t.seats a ∙ sym (places_more fs (has A d) a ∙ append-nil (places_in fs a));
+      inside = λ a. ap (every (λ e. ltb e n)) (s.seats a) ∙ t.inside a;
     }
 
     -- `edge r d e`, likewise
@@ -113,17 +105,19 @@ module _ (n : ℕ) (fs : List Fact) (m : Model) (t : Tells n fs m) where
     edge_told q d e s = record {
       world = s.world ∙ ap (λ (W : World). with_edge W q d e) t.world ∙ world_edge n fs q d e;
       seats = λ a. s.seats a ∙ t.seats a ∙ sym (places_more fs (edge q d e) a ∙ append-nil (places_in fs a));
+      inside = λ a. ap (every (λ f. ltb f n)) (s.seats a) ∙ t.inside a;
     }
 
     -- `name a d`, likewise where the name was free
     pub place_answer : (a d : ℕ) → PlaceSet m new a d r → r ≡ not (repeats fs (places a d))
     place_answer a d s = s.answer ∙ ap (λ (l : List ℕ). not (not (is_empty l))) (t.seats a)
 
-    pub place_told : (a d : ℕ) → PlaceSet m new a d r → r ≡ true → Tells n (fs ++ (places a d ∷ [])) new
-    place_told a d s free = record {
+    pub place_told : (a d : ℕ) → d < n → PlaceSet m new a d r → r ≡ true → Tells n (fs ++ (places a d ∷ [])) new
+    place_told a d low s free = record {
       world = s.world ∙ t.world ∙ world_place n fs a d;
       seats = λ b.
           s.seats b ∙ ap (λ (q : Bool). cond (q && eqb b a) (d ∷ []) (seats_of m.places b)) free ∙ put b (ℕ_discrete b a) ∙ sym (places_more fs (places a d) b);
+      inside = λ b. ap (every (λ e. ltb e n)) (s.seats b) ∙ inside_put n d (r && eqb b a) (seats_of m.places b) low (t.inside b);
     }
       where
         empty : (l : List ℕ) → not (not (is_empty l)) ≡ true → l ≡ []

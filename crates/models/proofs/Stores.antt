@@ -92,6 +92,11 @@ blank_world n =
     (fun_ext (λ A. fun_ext (λ d. ap (λ (x : ℕ). bit x d) (zeros 64 A) ∙ bit_zero d)))
     (fun_ext (λ r. fun_ext (λ d. fun_ext (λ e. ap (λ (x : ℕ). ltb d 32 && bit x e) (zeros 512 (r * 32 + d)) ∙ ap (λ (t : Bool). ltb d 32 && t) (bit_zero e) ∙ and-false (ltb d 32)))))
 
+-- of n elements, d or those that were there
+pub inside_put : (n d : ℕ) (q : Bool) (l : List ℕ) → d < n → every (λ e. ltb e n) l ≡ true → every (λ e. ltb e n) (cond q (d ∷ []) l) ≡ true
+inside_put n d true l low old = rw (lt-ltb d n low)
+inside_put n d false l low old = old
+
 -- the name at i is put at d
 module _ (l : List (Option Element)) (i : ℕ) (d : Element) (h : i < length l) where
   pub seats_at : (b : ℕ) → seats_of (set l i (Some d)) b ≡ cond (eqb b i) (d.0 ∷ []) (seats_of l b)
@@ -104,8 +109,4 @@ module _ (l : List (Option Element)) (i : ℕ) (d : Element) (h : i < length l) 
 
   -- it is still inside
   pub inside_at : (n : ℕ) → d.0 < n → Inside n l → Inside n (set l i (Some d))
-  inside_at n low old b = ap (every (λ e. ltb e n)) (seats_at b) ∙ go (eqb b i)
-    where
-      go : (q : Bool) → every (λ e. ltb e n) (cond q (d.0 ∷ []) (seats_of l b)) ≡ true
-      go true = rw (lt-ltb d.0 n low)
-      go false = old b
+  inside_at n low old b = ap (every (λ e. ltb e n)) (seats_at b) ∙ inside_put n d.0 (eqb b i) (seats_of l b) low (old b)

@@ -8,14 +8,14 @@ use alc::{Atom, Element, Name, Role};
 use sets::{Set, Size};
 
 // A model of a size: the element at which each name is placed, the elements of each atom, and at 32 r + d the elements to which role r leads from
-// element d.
+// element d. Each placed name is at an element below 32, whatever the size is, so that it can be looked for in a set.
 #[derive(Drop)]
 pub struct Model {
     pub size: Size,
     places: [Option<Element>; 64],
     atoms: [Set; 64],
     edges: [Set; 512],
-    pub ghost inside: { Inside size.count places },
+    pub ghost inside: { Inside 32 places },
 }
 
 impl Model {
@@ -39,7 +39,7 @@ impl Model {
 
     // `name a d`: puts the name at the element if it is free, and says whether it was.
     pub fn place(&mut self, a: Name, d: Element) -> bool
-        requires { (a.0 < 64) × (d.0 < self.old.size.count) }
+        requires { (a.0 < 64) × (d.0 < 32) }
         ensures { PlaceSet self.old self.new a.0 d.0 result }
     {
         let i = a.0 as usize;
@@ -76,18 +76,18 @@ impl Model {
     }
 
     // The elements of an atom.
-    pub fn elements(&self, a: Atom) -> Set
-        requires { a.0 < 64 }
-        ensures { (d : ℕ) → bit result d ≡ (world_of self.now).atoms a.0 d }
+    pub fn elements(&self, atom: Atom) -> Set
+        requires { atom.0 < 64 }
+        ensures { (d : ℕ) → bit result d ≡ (world_of self.now).atoms atom.0 d }
     {
-        self.atoms[a.0 as usize]
+        self.atoms[atom.0 as usize]
     }
 
     // The elements to which a role leads from an element.
-    pub fn successors(&self, r: Role, d: Element) -> Set
-        requires { (r.0 < 16) × (d.0 < 32) }
-        ensures { (e : ℕ) → bit result e ≡ (world_of self.now).roles r.0 d.0 e }
+    pub fn successors(&self, role: Role, from: Element) -> Set
+        requires { (role.0 < 16) × (from.0 < 32) }
+        ensures { (e : ℕ) → bit result e ≡ (world_of self.now).roles role.0 from.0 e }
     {
-        self.edges[(r.0 as usize) * 32 + (d.0 as usize)]
+        self.edges[(role.0 as usize) * 32 + (from.0 as usize)]
     }
 }

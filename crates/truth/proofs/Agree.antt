@@ -15,6 +15,7 @@ use Rattle.alc.specs.Shown.{claims_in}
 use Rattle.alc.specs.declared.Goal.{Goal as Records}
 use Rattle.sets.specs.Bit.{bit}
 use Rattle.extents.specs.Extent.{Extended}
+use Rattle.models.specs.Arrays.{Inside}
 use Rattle.models.specs.Shown.{world_of, interp_shown, seat_of, Below, Claimed}
 use Rattle.models.specs.declared.Model.{Model}
 use Rattle.truth.specs.Truth.{truth_in, wrong_in}
@@ -26,13 +27,13 @@ first_same : {A : Type 0} (p q : A → Bool) (l : List A) → All (λ x. p x ≡
 first_same p q [] h = refl
 first_same p q (x ∷ l) h = ap₂ (λ (b : Bool) (n : ℕ). cond b 0 (suc n)) h.0 (first_same p q l h.1)
 
-module _ (n : ℕ) (m : Model) (ext : List ℕ) (T : Table) (known : Extended ext n T (world_of m)) where
+module _ (n : ℕ) (m : Model) (ext : List ℕ) (T : Table) (known : Extended ext n T (world_of m)) (inside : Inside m.size.count m.places) where
   same : (i d : ℕ) → i < n → d < m.size.count → bit (get_or ext i 0) d ≡ member (world_of m) (tree_of T i) d
   same i d h l = known i d ∙ rw (lt-ltb i n h, lt-ltb d m.size.count l) refl
 
   truth_same : (c : Claim) → All (Below n 0) (claim_fields c) → truth_in ext (interp_shown m) c ≡ truth T (interp_shown m) c
   unfolding truth
-  truth_same (is a i) h = same i (seat_of m a) h.1.0 (seat_low m a)
+  truth_same (is a i) h = same i (seat_of m a) h.1.0 (seat_low m m.size.count m.size.sized.least inside a)
   truth_same (sub i j) h =
       every_same m.size.count (λ d. not (bit (get_or ext i 0) d) || bit (get_or ext j 0) d)
       (λ d. not (member (world_of m) (tree_of T i) d) || member (world_of m) (tree_of T j) d)

@@ -7,6 +7,7 @@ ghost use Rattle.alc.specs.Meaning.{every_below};
 ghost use Rattle.alc.specs.Claims.{claim_fields, names, holds_by};
 ghost use Rattle.alc.specs.Shown.{claim_of, sided_of, claims_in};
 ghost use Rattle.sets.specs.Bit.{bit};
+ghost use Rattle.models.specs.Arrays.{Inside};
 ghost use Rattle.models.specs.Shown.{seat_of, is_seated, all_seated, interp_shown, Below, Claimed};
 ghost use Rattle.truth.specs.Truth.{truth_in, wrong_in};
 
@@ -19,7 +20,7 @@ use sets::{Set, Size, set_of};
 fn seat(model: &Model, a: Name) -> Element
     requires { a.0 < 64 }
     ensures place { result.0 ≡ seat_of model.now a.0 }
-    ensures inside { result.0 < model.now.size.count }
+    ensures low { result.0 < 32 }
 {
     model.place_of(a).unwrap_or_default()
 }
@@ -114,9 +115,11 @@ pub fn all_placed(claims: Goal, model: &Model) -> bool
     true
 }
 
-// The place of the first claim that the model gets wrong by the meaning of the concepts, or the count of the claims.
+// The place of the first claim that the model gets wrong by the meaning of the concepts, or the count of the claims. Each placed name has to be
+// at an element of the model: the sets of the concepts have no others.
 pub fn countered(table: &Table, model: &Model, claims: Goal) -> usize
-    requires { Claimed (length table.now) claims }
+    requires claimed { Claimed (length table.now) claims }
+    requires inside { Inside model.now.size.count model.now.places }
     ensures { result ≡ first_at (holds_by table.now (interp_shown model.now)) (claims_in claims) }
 {
     let ext = extensions(table, model);

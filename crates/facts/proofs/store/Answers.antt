@@ -10,10 +10,10 @@ abbrev edge : ℕ
 edge = suc (suc facts_from)
 
 pub returns-in-33 : goal.returns-in-33
-returns-in-33 c = λ n fs t. place_stored _ _ _ _ n fs t _ _ (fact_at c.args.l _ c.in-33.is) c.place.ensures
+returns-in-33 c = λ n fs low t. place_stored _ _ _ _ n fs low t _ _ (fact_at c.args.l _ c.in-33.is) c.place.ensures
 
 pub returns-in-34 : goal.returns-in-34
-returns-in-34 c = λ n fs t. atom_stored _ _ _ _ n fs t _ _ (fact_at c.args.l _ c.in-34.is) c.has.ensures
+returns-in-34 c = λ n fs low t. atom_stored _ _ _ _ n fs low t _ _ (fact_at c.args.l _ c.in-34.is) c.has.ensures
 
 pub returns-in_default : goal.returns-in_default
-returns-in_default c = λ n fs t. edge_stored _ _ _ _ n fs t _ _ _ (fact_at c.args.l edge (omega arith)) c.edge.ensures
+returns-in_default c = λ n fs low t. edge_stored _ _ _ _ n fs low t _ _ _ (fact_at c.args.l edge (omega arith)) c.edge.ensures

@@ -7,4 +7,4 @@ use Rattle.truth.proofs.countered.Goals as goal
 pub returns : goal.returns
 returns c =
     let a = c.args in
-    c.first_wrong.ensures ∙ first_differs (length a.table.now) a.model.now c.extensions-ext.result a.table.now c.extensions-ext.ensures.sets a.claims c.requires
+    c.first_wrong.ensures ∙ first_differs (length a.table.now) a.model.now c.extensions-ext.result a.table.now c.extensions-ext.ensures.sets c.requires.inside a.claims c.requires.claimed

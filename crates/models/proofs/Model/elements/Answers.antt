@@ -9,4 +9,4 @@ use Rattle.models.proofs.Model.elements.Goals as goal
 
 pub returns : goal.returns
 unfolding atom_in
-returns c = λ d. ap (λ (x : ℕ). bit x d) (get_or_default c.args.self.now.atoms c.args.a.0 _ 0 (omega arith))
+returns c = λ d. ap (λ (x : ℕ). bit x d) (get_or_default c.args.self.now.atoms c.args.atom.0 _ 0 (omega arith))

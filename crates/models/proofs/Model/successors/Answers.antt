@@ -13,4 +13,4 @@ pub returns : goal.returns
 unfolding edge_in
 returns c = λ e.
     let a = c.args in
-    rw (lt-ltb a.d.0 32 c.requires.1) (ap (λ (x : ℕ). bit x e) (get_or_default a.self.now.edges (a.r.0 * 32 + a.d.0) _ 0 (omega arith)))
+    rw (lt-ltb a.from.0 32 c.requires.1) (ap (λ (x : ℕ). bit x e) (get_or_default a.self.now.edges (a.role.0 * 32 + a.from.0) _ 0 (omega arith)))
