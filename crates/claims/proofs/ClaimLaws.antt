@@ -1,12 +1,11 @@
 -- A line of the text as a claim: what is said is the claim that is made, and its rows are those that are tested. Assumes nothing.
-use Prim.Native.Nat.{ℕ, ◌+◌, ◌≤◌, ◌<◌}
-use native.Mathlib.Omega.{arith}
-use mathlib.Core.Bool.{Bool, true, false, cond}
+use Prim.Native.Nat.{ℕ, ◌≤◌, ◌<◌}
+use mathlib.Core.Bool.{true, false, cond}
 use mathlib.Core.List.{List, map}
 use mathlib.Core.Path.{◌≡◌, refl, sym, ap, ◌∙◌}
 use lib.Dec.{ltb}
 use lib.ListN.{length, get_or, drop}
-use borrow.Author.Tests.{le-ltb, lt-ltb, ltb-true}
+use borrow.Author.Tests.{le-ltb}
 use Rattle.lines.specs.Walk.{claims_from, sections_from}
 use Rattle.lines.specs.declared.Line.{Line}
 use Rattle.alc.specs.Lists.{every}
@@ -62,14 +61,3 @@ module _ (l : Line) (h : claims_from ≤ l.word) (g : l.word < sections_from) wh
   rows_claim T cs =
       ap (λ s. refusal (rows (in_claims T cs) s)) plain_said
       ∙ ap (λ s. cond (ltb (length cs) 64) (cond (every (in_range (length T) 0) (said_fields s)) 0 3) 5) (sym plain_said)
-
--- a goal that is not full takes one more
-pub with_more : {A : Type 0} (n : ℕ) (a b c : A) → n < 64 → a ≡ cond (ltb n 64) b c → a ≡ b
-with_more n a b c h e = e ∙ (rw (lt-ltb n 64 h) refl)
-
-pub with_count : (n m : ℕ) → n ≤ 64 → m ≡ cond (ltb n 64) (n + 1) n → m ≤ 64
-with_count n m h e = go (ltb n 64) refl
-  where
-    go : (b : Bool) → ltb n 64 ≡ b → m ≤ 64
-    go true f = let z = ltb-true n 64 f in let y : m ≡ n + 1 = e ∙ (rw f refl) in omega arith
-    go false f = let y : m ≡ n = e ∙ (rw f refl) in omega arith

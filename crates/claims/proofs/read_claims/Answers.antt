@@ -13,7 +13,7 @@ use Rattle.lines.specs.declared.Next.TheVariants.{Bad, End}
 use Rattle.reading.proofs.Loop.{Line-found, when_found}
 use Rattle.alc.specs.Table.{Table}
 use Rattle.alc.specs.declared.Goal.{Goal as Records}
-use Rattle.claims.proofs.ClaimLaws.{with_more, with_count}
+use Rattle.goals.proofs.RecordLaws.{with_more, with_count}
 use Rattle.std.specs.Prelude.{Ok, Err}
 use Rattle.alc.specs.Shown.{number_of}
 use Rattle.alc.proofs.Refusals.{number_some}
