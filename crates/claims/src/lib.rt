@@ -23,7 +23,7 @@ fn side_of(l: Line) -> u8
     RIGHT
 }
 
-// The claim that a line of the text is.
+// The claim that a line of the text is. No `TryFrom`: a line of another word never comes here, so it could not fail.
 fn made_claim(l: Line) -> Claim
     requires { (claims_from ≤ l.word) × (l.word < sections_from) }
     ensures { result ≡ record_of (sided_in l) }

@@ -15,7 +15,7 @@ use alc::{Answer, Claim, Table};
 use goals::{Outcome, Turn};
 use states::State;
 
-// How many records of the room each goal that waits has.
+// How many records of the room each goal that waits has. The room stays a lent slice, as is asked for, so each function says how long it is.
 const PLACE: usize = 64;
 
 // The current goal has closed: the one put aside last becomes current, where one waits.

@@ -63,7 +63,8 @@ fn extent(entry: Entry, model: &Model, ext: &[Set; 256]) -> Set
     }
 }
 
-// The elements of every line of the table, of which there are at most 256: a line's set is worked out from those above it.
+// The elements of every line of the table, of which there are at most 256: a line's set is worked out from those above it. The form is asked for: an array
+// of 256 sets of 32 bits, filled entry by entry.
 pub fn extensions(table: &Table, model: &Model) -> [Set; 256]
     ensures few { length table.now ≤ 256 }
     ensures sets { Extended result (length table.now) table.now (world_of model.now) }

@@ -27,7 +27,8 @@ struct Failed {
 }
 
 // Reads until the buffer is full, the input ends or a read fails. What was read stands in front, in order, and is what the input has lost, on a failure
-// too; where no read failed and the buffer isn't full, the input is at its end.
+// too; where no read failed and the buffer isn't full, the input is at its end. A loop by hand: std's `read_to_end` needs a heap, and its `read_exact` says
+// nothing of what was read where it fails.
 #[tactic(auto, using(crate::proofs::Filled::filled))]
 fn read_all<R: Read>(input: &mut R, buf: &mut [u8]) -> Result<usize, Failed>
     ensures count { MatchResult result (λ n. n ≤ length buf.new) (λ e. e.count ≤ length buf.new) }

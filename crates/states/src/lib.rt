@@ -11,7 +11,7 @@ use alc::Goal;
 pub struct State {
     // the current goal, where one is open
     pub goal: Goal,
-    // the claims of each goal that waits, the one put aside first at 0
+    // the claims of each goal that waits, the one put aside first at 0: a fixed array, since there is no heap
     pub counts: [u8; 16],
     // how many goals are open: the current one and those that wait
     pub open: usize,

@@ -21,7 +21,7 @@ pub struct Passed {
     pub at: usize,
 }
 
-// The step that a line of the text is.
+// The step that a line of the text is. No `From`: neither type is of this crate.
 fn made_step(l: Line) -> Step
     ensures { result ≡ record { word = l.word; x = l.n0 % 256; y = l.n1 % 256; z = l.n2 % 256 } }
 {

@@ -29,7 +29,7 @@ fn kind(word: u8) -> Kind
     }
 }
 
-// The line of the table that a line of the text is.
+// The line of the table that a line of the text is. No `TryFrom`: a line of another word never comes here, so it could not fail.
 fn made_entry(l: Line) -> Entry
     requires { l.word < claims_from }
     ensures { shown result ≡ entry_in l }
