@@ -125,7 +125,7 @@ pub fn push(g: &mut Goal, c: Claim)
     g.count += 1;
 }
 
-// The goal with one claim more, behind the others; a full goal stays as it is.
+// The goal with one claim more, behind the others; a full goal stays as it is, which `push` does not say.
 pub fn with(g: Goal, c: Claim) -> Goal
     requires { g.count ≤ 64 }
     ensures { (records result ≡ cond (ltb g.count 64) (records g ++ (c ∷ [])) (records g)) × (result.count ≡ cond (ltb g.count 64) (g.count + 1) g.count) }

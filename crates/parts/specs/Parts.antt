@@ -12,6 +12,7 @@ use Rattle.alc.specs.Ranges.{in_range}
 use Rattle.alc.specs.Table.{Table, Entry, entry_of, stands}
 use Rattle.alc.specs.Claims.{Claim, is, Sided, Goal, claim_fields}
 use Rattle.alc.specs.Claims as Claims
+use Rattle.alc.specs.Entries.{Layered}
 use Rattle.alc.specs.Dossier as Dossier
 use Rattle.alc.specs.Dossier.{sided, saying}
 use Rattle.alc.specs.Shown.{kind_at, Shows, number_of}
@@ -63,6 +64,8 @@ pub record Listing (text : List ℕ) (T : Table) (at k : ℕ) : Type 0 where
 pub record TableRefused (text : List ℕ) (e : Refused) : Type 0 where
   pub table : Table
   pub at : ℕ
+  pub few : length table ≤ 256
+  pub layered : Layered table
   pub listing : Listing text table at (number_of e.refusal)
   pub line : e.line ≡ length table + 1
 
@@ -125,6 +128,8 @@ pub record ClaimsRefused (text : List ℕ) (T : Table) (begun : ℕ) (e : Refuse
   pub cs : List Sided
   pub lines : ℕ
   pub at : ℕ
+  pub few : length cs ≤ 64
+  pub ranges : All (λ s. every (in_range (length T) 0) (claim_fields (Claims.claim s)) ≡ true) cs
   pub leads : ClaimsLead text T begun cs lines at (Err (number_of e.refusal))
   pub line : e.line ≡ lines + 1
 

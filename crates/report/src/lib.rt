@@ -29,7 +29,7 @@ fn in_columns(word: &str, number: u8, line: usize) -> Line
     out
 }
 
-// The line of an answer.
+// The line of an answer. No `Display`: its contract gives the bytes only where writing answers `Ok`.
 pub fn line_of(answer: Answer) -> Line
     ensures { result.bytes ≡ printed (answered answer) }
 {

@@ -12,7 +12,7 @@ use alc::{Entry, Kind, Refusal, Refused, Table};
 use lines::{IN_TABLE, Line, Next};
 use parts::{Listed, ranged};
 
-// The kind of a line of the table, by its word.
+// The kind of a line of the table, by its word. No `TryFrom`: no other word comes here.
 fn kind(word: u8) -> Kind
     requires { word < claims_from }
     ensures { kind_of result ≡ kind_at word }

@@ -77,7 +77,8 @@ fn table_word(f: &[u8]) -> u8
     among(f, lines::PROOF, lines::ID).unwrap_or(WORDS)
 }
 
-// The same among the words of the steps, in parts that are short, so that the compiler unrolls the loop over each.
+// The same among the words of the steps, in parts that are short, so that the compiler unrolls the loop over each: in one it cost 13 percent more on a long
+// derivation.
 fn step_word(f: &[u8]) -> u8
     ensures { result ≡ sought 0 f.now steps_from (length step_words) }
 {

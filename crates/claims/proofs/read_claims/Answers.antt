@@ -29,12 +29,12 @@ word : {text : List ℕ} {at : ℕ} {l : Line} {to : ℕ} → Line-found text at
 word {l = l} f = stands_among l f.allowed
 
 -- what the walk came to, where it is refused
-module _ (text : List ℕ) (start entries at n : ℕ) (g : Records) (v : (T : Table) → length T ≡ entries → Walk text T start g at n) where
+module _ (text : List ℕ) (start entries at n : ℕ) (g : Records) (low : g.count ≤ 64) (v : (T : Table) → length T ≡ entries → Walk text T start g at n) where
   stopped : (k : Refusal) (x : Next) → read_at text at at_claims ≡ x → ((T : Table) (q : length T ≡ entries) → ClaimsEnd T (v T q).cs x (number_of k))
       → (T : Table) → length T ≡ entries → ClaimsRead text T start (Err (record { refusal = k; line = n + 1 }))
   stopped k x e d T q =
       let w = v T q in
-      record { cs = w.cs; lines = n; at = at; leads = stops _ T _ _ _ _ w x (number_of k) e (d T q); line = refl }
+      record { cs = w.cs; lines = n; at = at; few = omega (arith, low, w.count); ranges = w.ranges; leads = stops _ T _ _ _ _ w x (number_of k) e (d T q); line = refl }
 
 pub loop-l-init : goal.loop-l-init
 loop-l-init c =
@@ -59,7 +59,7 @@ next_claim-requires c = ((word (when_found _ _ _ _ _ (sym c.read.ensures ∙ c.i
 pub returns-in-Err : goal.returns-in-Err
 returns-in-Err c =
     let r = sym c.read.ensures ∙ c.in-Found.is in
-    stopped _ _ _ _ _ _ c.loop-l.invariant.3 _ _ r
+    stopped _ _ _ _ _ _ c.loop-l.invariant.2 c.loop-l.invariant.3 _ _ r
     (λ T q. fails _ T _ _ _ _ (c.loop-l.invariant.3 T q) _ _ r c.if-l-ge-PROOF.false c.args.entries _ q c.in-Err.ensures.row (number_some c.in-Err.refusal))
 
 pub loop-l-smaller : goal.loop-l-smaller
@@ -83,7 +83,7 @@ loop-l-preserved c =
     )
 
 pub returns-in-Bad : goal.returns-in-Bad
-returns-in-Bad c = stopped _ _ _ _ _ _ c.loop-l.invariant.3 Malformed Bad (sym c.read.ensures ∙ c.in-Bad.is) (λ T q. wrong)
+returns-in-Bad c = stopped _ _ _ _ _ _ c.loop-l.invariant.2 c.loop-l.invariant.3 Malformed Bad (sym c.read.ensures ∙ c.in-Bad.is) (λ T q. wrong)
 
 pub returns-in-End : goal.returns-in-End
-returns-in-End c = stopped _ _ _ _ _ _ c.loop-l.invariant.3 Unfinished End (sym c.read.ensures ∙ c.in-End.is) (λ T q. over)
+returns-in-End c = stopped _ _ _ _ _ _ c.loop-l.invariant.2 c.loop-l.invariant.3 Unfinished End (sym c.read.ensures ∙ c.in-End.is) (λ T q. over)

@@ -37,15 +37,6 @@ returns-in_err-passed c =
 pub turn-requires-clause-makes : goal.turn-requires-clause-makes
 turn-requires-clause-makes c = (goes _ _ _ _ c.in_ok-passed.ensures).makes
 
-pub put_aside-requires-clause-open : goal.put_aside-requires-clause-open
-put_aside-requires-clause-open c =
-    let q = goes _ _ _ _ c.in_ok-passed.ensures in
-    let n = ap (λ (o : Outcome). length (added o)) c.in-Parts.is in
-    (q.some, omega (arith, q.few, q.some, n))
-
-pub turn-requires-in_default-clause-makes : goal.turn-requires-in_default-clause-makes
-turn-requires-in_default-clause-makes c = (goes _ _ _ _ c.in_ok-passed.ensures).makes
-
 pub returns-in-Closes : goal.returns-in-Closes
 returns-in-Closes c =
     subst (λ (r : State). Stepped c.args.text.now c.args.table.now c.args.room.now c.args.s.now c.args.room.now r (Ok tt)) (sym c.close.ensures)

@@ -34,6 +34,8 @@ pub returns-in-Err : goal.returns-in-Err
 returns-in-Err c = record {
   table = c.loop-l.table;
   at = c.loop-l.at;
+  few = c.len-line.ensures.few;
+  layered = c.len-line.ensures.layered;
   listing =
       let e = sym c.read.ensures ∙ c.in-Found.is in
       stops _ _ _ c.loop-l.invariant _ _ e
@@ -45,6 +47,8 @@ pub returns-in-Bad : goal.returns-in-Bad
 returns-in-Bad c = record {
   table = c.loop-l.table;
   at = c.loop-l.at;
+  few = c.len-line.ensures.few;
+  layered = c.len-line.ensures.layered;
   listing = stops _ _ _ c.loop-l.invariant _ 2 (sym c.read.ensures ∙ c.in-Bad.is) wrong;
   line = ap (λ (n : ℕ). n + 1) c.len-line.ensures.count;
 }
