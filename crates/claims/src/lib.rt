@@ -11,7 +11,7 @@ ghost use Rattle.parts.specs.Parts.{sided_in, claim_rows, section_at, ClaimsRead
 
 use alc::{Claim, Concept, Name, Refusal, Refused, Role};
 use lines::{IN_CLAIMS, LEFT, Line, Next, RIGHT};
-use parts::{Heading, Section, ranged};
+use parts::{Heading, Reached, Section, ranged};
 
 // The side of a claim.
 fn side_of(l: Line) -> u8
@@ -85,8 +85,7 @@ pub fn read_claims(text: &[u8], start: usize, entries: usize) -> Result<Heading,
                     return Ok(Heading {
                         claims,
                         section: section(l.word),
-                        at,
-                        lines: n,
+                        reached: Reached { at, lines: n },
                     });
                 }
                 match next_claim(l, entries, claims.count) {

@@ -69,10 +69,10 @@ below l counts x hs w = w.1
 module _ (text : List ℕ) (l : List Record) (s : State) (big : 1088 ≤ length l) (v : Ready text s) (p : Passed) where
   -- the state behind it, with another goal, other counts and another count of open goals
   abbrev behind : Records → List ℕ → ℕ → State
-  behind g counts n = state_of g counts n (s.steps + 1) (s.lines + 1) p.at
+  behind g counts n = state_of g counts n (s.steps + 1) (s.reached.lines + 1) p.at
 
   ready : {T : Table} → Passing T text s p → (g : Records) (counts : List ℕ) (n : ℕ) → g.count ≤ 64 → length counts ≡ 16 → ((i : ℕ) → get_or counts i 0 ≤ 64) → n ≤ 17
-      → Ready text (behind g counts n) × (s.at < p.at)
+      → Ready text (behind g counts n) × (s.reached.at < p.at)
   ready q g counts n small slots sizes few =
       (record { few = few; small = small; slots = slots; sizes = sizes; within = q.within; counted = omega (arith, v.counted, q.later) }, q.later)
 
@@ -159,9 +159,9 @@ module _ (text : List ℕ) (l : List Record) (s : State) (big : 1088 ≤ length 
             by (yes e) = rw (e, get_or-set_same s.counts (s.open - 1) g.count 0 (omega (arith, v.slots, few))) small
             by (no e) = rw (get_or-set_other s.counts (s.open - 1) i g.count 0 e) (v.sizes i)
 
-        onward : Ready text r × (s.at < r.at)
+        onward : Ready text r × (s.reached.at < r.reached.at)
         onward =
-            subst (λ (z : State). Ready text z × (s.at < z.at)) (sym a.state)
+            subst (λ (z : State). Ready text z × (s.reached.at < z.reached.at)) (sym a.state)
             (ready q g counts (s.open + 1) small (length-set s.counts (s.open - 1) g.count ∙ v.slots) sizes (omega (arith, few)))
 
         go : (cs : List Sided) (w : Verdict) (x : Goal) (hs : List Goal) → length T ≤ 256 → s.open ≡ suc (length hs) → Waiting l s.counts hs → w ≡ from T cs text s (x ∷ hs)

@@ -41,7 +41,7 @@ pub record Stands (T : Table) (cs : List Sided) (text : List ℕ) (v : Verdict) 
 -- the current goal has closed: the last of those that wait is current, where one waits
 abbrev pub closed_of : List Record → State → State
 closed_of l s =
-    state_of (cond (eqb (s.open - 1) 0) s.goal (last_of l s.counts (s.open - 1))) s.counts (s.open - 1) s.steps s.lines s.at
+    state_of (cond (eqb (s.open - 1) 0) s.goal (last_of l s.counts (s.open - 1))) s.counts (s.open - 1) s.steps s.reached.lines s.reached.at
 
 -- the second premise of a turn, of which the current goal is the first, has been put aside in the room: m is the room, and r the state
 pub record PutAside (l : List Record) (s : State) (t : Turn) (m : List Record) (r : State) : Type 0 where
@@ -50,7 +50,7 @@ pub record PutAside (l : List Record) (s : State) (t : Turn) (m : List Record) (
   pub count : second.count ≡ s.goal.count
   pub full : second.count ≤ length second.claims
   pub room : m ≡ stored l ((s.open - 1) * 64) second.claims second.count
-  pub state : r ≡ state_of s.goal (set s.counts (s.open - 1) s.goal.count) (s.open + 1) s.steps s.lines s.at
+  pub state : r ≡ state_of s.goal (set s.counts (s.open - 1) s.goal.count) (s.open + 1) s.steps s.reached.lines s.reached.at
 
 -- a line at the state s with the room l leaves the state r with the room m, and the verdict from there on is as it was; or it ends the derivation, and
 -- the answer is the verdict
@@ -60,7 +60,7 @@ Behind T cs text v m r (Err a) = answered a ≡ v
 
 -- where a line goes on another can be read behind it
 abbrev pub Onward : List ℕ → State → State → Result (Unit {0}) Answer → Type 0
-Onward text s r (Ok u) = Ready text r × (s.at < r.at)
+Onward text s r (Ok u) = Ready text r × (s.reached.at < r.reached.at)
 Onward text s r (Err a) = Unit {0}
 
 pub record Stepped (text : List ℕ) (T : Table) (l : List Record) (s : State) (m : List Record) (r : State) (e : Result (Unit {0}) Answer) : Type 0 where

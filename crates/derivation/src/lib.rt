@@ -53,8 +53,8 @@ fn step(room: &mut [Claim], text: &[u8], table: &Table, s: &mut State) -> Result
 {
     let passed = steps::next_step(text, table, s)?;
     s.steps += 1;
-    s.lines += 1;
-    s.at = passed.at;
+    s.reached.lines += 1;
+    s.reached.at = passed.at;
     match passed.turn.leaves {
         Outcome::Closes => {
             close(room, s);

@@ -19,6 +19,7 @@ ghost use Rattle.facts.specs.Read.{SizeRead, FactsRead, concluded};
 use alc::{Answer, Atom, Element, Goal, Name, Refusal, Refused, Role, Table};
 use lines::{AT_SIZE, IN_FACTS, Line, Next};
 use models::Model;
+use parts::Reached;
 use sets::Size;
 
 // Stores the fact that a line is, by its word, and says whether it repeats nothing.
@@ -37,18 +38,13 @@ fn store(l: Line, model: &mut Model) -> bool
     }
 }
 
-// Reads the size of a model, with so many lines before it: the size, and where the next line begins.
-fn read_size(
-    text: &[u8],
-    start: usize,
-    before: usize,
-    entries: usize,
-) -> Result<(Size, usize), Refused>
-    requires bounds { (start ≤ length text.now) × (before ≤ start) × (entries ≤ 256) }
-    ensures { SizeRead text.now start before entries result }
+// Reads the size of a model: the size, and where the next line begins.
+fn read_size(text: &[u8], from: Reached, entries: usize) -> Result<(Size, usize), Refused>
+    requires bounds { (from.at ≤ length text.now) × (from.lines ≤ from.at) × (entries ≤ 256) }
+    ensures { SizeRead text.now from.at from.lines entries result }
 {
-    let line = before + 1;
-    match reading::read(text, start, AT_SIZE) {
+    let line = from.lines + 1;
+    match reading::read(text, from.at, AT_SIZE) {
         Next::Found(l, next) => {
             if !parts::ranged(l, entries, 0) {
                 return Err(Refused {
@@ -70,20 +66,19 @@ fn read_size(
     }
 }
 
-// Reads the facts from a position on, up to the end or the first line that is refused: how many lines were read.
+// Reads the facts, up to the end or the first line that is refused: how many lines were read.
 fn read_facts(
     text: &[u8],
-    start: usize,
-    before: usize,
+    from: Reached,
     entries: usize,
     model: &mut Model,
 ) -> Result<usize, Refused>
-    requires bounds { (start ≤ length text.now) × (before ≤ start) × (entries ≤ 256) }
+    requires bounds { (from.at ≤ length text.now) × (from.lines ≤ from.at) × (entries ≤ 256) }
     requires tells { Tells model.old.size.count [] model.old }
-    ensures { FactsRead text.now start before entries model.old.size.count model.new result }
+    ensures { FactsRead text.now from.at from.lines entries model.old.size.count model.new result }
 {
-    let mut at = start;
-    let mut n = before;
+    let mut at = from.at;
+    let mut n = from.lines;
     loop {
         let line = n + 1;
         match reading::read(text, at, IN_FACTS) {
@@ -139,29 +134,24 @@ fn ended(claims: Goal, n: usize, table: &Table, model: &Model) -> Result<usize, 
 }
 
 // What a model comes to from its first line on: the count of the lines where it refutes the claims, or a refusal.
-fn refuted(
-    text: &[u8],
-    start: usize,
-    before: usize,
-    table: &Table,
-    claims: Goal,
-) -> Result<usize, Refused>
-    requires { Asked text.now start before (length table.now) claims }
-    ensures { concluded result ≡ judge before (at_start table.now (claims_in claims)) (lines_of (drop start text.now)) }
+fn refuted(text: &[u8], from: Reached, table: &Table, claims: Goal) -> Result<usize, Refused>
+    requires { Asked text.now from.at from.lines (length table.now) claims }
+    ensures { concluded result ≡ judge from.lines (at_start table.now (claims_in claims)) (lines_of (drop from.at text.now)) }
 {
     let entries = table.len();
-    let (size, next) = read_size(text, start, before, entries)?;
+    let (size, at) = read_size(text, from, entries)?;
     let mut model = Model::new(size);
-    let n = read_facts(text, next, before + 1, entries, &mut model)?;
+    let lines = from.lines + 1;
+    let n = read_facts(text, Reached { at, lines }, entries, &mut model)?;
     ended(claims, n, table, &model)
 }
 
-// Judges a model from its first line on, which is its size, with so many lines of the dossier before it.
-pub fn judge_model(text: &[u8], start: usize, before: usize, table: &Table, claims: Goal) -> Answer
-    requires { Asked text.now start before (length table.now) claims }
-    ensures { answered result ≡ judge before (at_start table.now (claims_in claims)) (lines_of (drop start text.now)) }
+// Judges a model from its first line on, which is its size.
+pub fn judge_model(text: &[u8], from: Reached, table: &Table, claims: Goal) -> Answer
+    requires { Asked text.now from.at from.lines (length table.now) claims }
+    ensures { answered result ≡ judge from.lines (at_start table.now (claims_in claims)) (lines_of (drop from.at text.now)) }
 {
-    match refuted(text, start, before, table, claims) {
+    match refuted(text, from, table, claims) {
         Ok(n) => Answer::Refuted(n),
         Err(r) => Answer::Refused(r),
     }

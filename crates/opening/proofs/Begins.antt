@@ -63,13 +63,13 @@ module _ (n : ℕ) (text : List ℕ) (T : Table) (s : State) (b : Following n te
   pub begins_ready : Ready text s
   begins_ready =
       subst (Ready text) (sym b.begins.state)
-      (begun_ready s.goal s.at s.lines b.begins.small (through_bounds b.begins.walk (omega arith, omega arith)))
+      (begun_ready s.goal s.reached.at s.reached.lines b.begins.small (through_bounds b.begins.walk (omega arith, omega arith)))
 
   pub begins_alone : s.open ≡ 1
   begins_alone = ap (λ (r : State). r.open) b.begins.state
 
-  pub begins_so : verdict n text ≡ judge s.lines (in_steps T b.begins.cs s.steps (b.begins.cs ∷ [])) (lines_of (drop s.at text))
+  pub begins_so : verdict n text ≡ judge s.reached.lines (in_steps T b.begins.cs s.steps (b.begins.cs ∷ [])) (lines_of (drop s.reached.at text))
   begins_so =
       verdict_short n text b.wide b.short
       ∙ through_judge b.begins.walk
-      ∙ ap (λ (r : State). judge r.lines (in_steps T b.begins.cs r.steps (b.begins.cs ∷ [])) (lines_of (drop r.at text))) (sym b.begins.state)
+      ∙ ap (λ (r : State). judge r.reached.lines (in_steps T b.begins.cs r.steps (b.begins.cs ∷ [])) (lines_of (drop r.reached.at text))) (sym b.begins.state)

@@ -17,7 +17,7 @@ use Rattle.opening.specs.declared.Opening.TheVariants.{Decided, Follows}
 
 -- the state with another goal
 abbrev pub with_goal : Records → State → State
-with_goal g s = state_of g s.counts s.open s.steps s.lines s.at
+with_goal g s = state_of g s.counts s.open s.steps s.reached.lines s.reached.at
 
 -- the two openings are the same, but for what lies behind the count of the goal
 pub data Alike : Opening → Opening → Type 0 where
@@ -33,4 +33,4 @@ one_opening n text (Follows T s) (Follows U r) d e =
     let c = e.begins in
     let q = both_last b.walk c.walk refl refl in
     follows (ap (λ (S : Judged). S.table) q.2) (b.current ∙ ap (λ (S : Judged). map record_of S.claims) q.2 ∙ sym c.current)
-    (λ g. ap (with_goal g) b.state ∙ ap (λ (k : ℕ). begun_of g k s.lines) q.1 ∙ ap (begun_of g r.at) q.0 ∙ sym (ap (with_goal g) c.state))
+    (λ g. ap (with_goal g) b.state ∙ ap (λ (k : ℕ). begun_of g k s.reached.lines) q.1 ∙ ap (begun_of g r.reached.at) q.0 ∙ sym (ap (with_goal g) c.state))

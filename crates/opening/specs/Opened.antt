@@ -21,11 +21,11 @@ First text T cs lines at = Through text 0 0 begin lines at (in_steps T cs 0 (cs 
 -- the text has the table T, and behind it and its claims a first step begins, at the state s
 pub record Begins (text : List ℕ) (T : Table) (s : State) : Type 0 where
   pub few : length T ≤ 256
-  pub state : s ≡ begun_of s.goal s.at s.lines
+  pub state : s ≡ begun_of s.goal s.reached.at s.reached.lines
   pub small : s.goal.count ≤ 64
   pub cs : List Sided
   pub current : Shows s.goal cs
-  pub walk : First text T cs s.lines s.at
+  pub walk : First text T cs s.reached.lines s.reached.at
 
 -- no first step begins in the text, and its lines have the verdict v
 pub record Ends (text : List ℕ) (v : Verdict) : Type 0 where

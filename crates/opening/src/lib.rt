@@ -32,12 +32,11 @@ fn leading(text: &[u8]) -> Result<Opening, Refused>
     match heading.section {
         Section::Proof => Ok(Opening::Follows(
             listed.table,
-            states::begun(heading.claims, heading.at, heading.lines),
+            states::begun(heading.claims, heading.reached),
         )),
         Section::Model => Ok(Opening::Decided(facts::judge_model(
             text,
-            heading.at,
-            heading.lines,
+            heading.reached,
             &listed.table,
             heading.claims,
         ))),

@@ -139,7 +139,7 @@ module _ {text : List ℕ} {T : Table} {begun : ℕ} where
 
   -- two headings are the same, but for the records behind the claims
   pub one_heading : {r s : Heading} → ClaimsHeard text T begun r → ClaimsHeard text T begun s
-      → (records r.claims ≡ records s.claims) × (r.lines ≡ s.lines) × (r.at ≡ s.at) × (r.section ≡ s.section)
+      → (records r.claims ≡ records s.claims) × (r.reached.lines ≡ s.reached.lines) × (r.reached.at ≡ s.reached.at) × (r.section ≡ s.section)
   one_heading c d = let q = one_lead c.leads d.leads in (c.shown ∙ ap (map record_of) q.0 ∙ sym d.shown, q.1, q.2, ok_once q.3)
 
   pub one_refused : {e f : Refused} → ClaimsRefused text T begun e → ClaimsRefused text T begun f → e ≡ f

@@ -121,7 +121,7 @@ pub record ClaimsHeard (text : List ℕ) (T : Table) (begun : ℕ) (r : Heading)
   pub shown : Shows r.claims cs
   pub few : r.claims.count ≤ 64
   pub ranges : All (λ s. every (in_range (length T) 0) (claim_fields (Claims.claim s)) ≡ true) cs
-  pub leads : ClaimsLead text T begun cs r.lines r.at (Ok r.section)
+  pub leads : ClaimsLead text T begun cs r.reached.lines r.reached.at (Ok r.section)
 
 -- the line behind some claims is refused, with its number and line
 pub record ClaimsRefused (text : List ℕ) (T : Table) (begun : ℕ) (e : Refused) : Type 0 where

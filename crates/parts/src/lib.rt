@@ -142,11 +142,17 @@ pub enum Section {
     Model,
 }
 
-// What reading the claims came to: the claims, what ended them, the position of the line behind it, and how many lines were read.
+// How far a text is read: the position of the next line, and how many lines there are before it.
+#[derive(Clone, Copy)]
+pub struct Reached {
+    pub at: usize,
+    pub lines: usize,
+}
+
+// What reading the claims came to: the claims, what ended them, and how far the text is read behind it.
 #[derive(Clone, Copy)]
 pub struct Heading {
     pub claims: Goal,
     pub section: Section,
-    pub at: usize,
-    pub lines: usize,
+    pub reached: Reached,
 }

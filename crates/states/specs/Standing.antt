@@ -6,7 +6,7 @@ use Rattle.states.specs.declared.State.{State}
 
 -- the state with these parts, in this order
 abbrev pub state_of : Records → List ℕ → ℕ → ℕ → ℕ → ℕ → State
-state_of g counts opened steps lines at = record { goal = g; counts = counts; «open» = opened; steps = steps; lines = lines; at = at }
+state_of g counts opened steps lines at = record { goal = g; counts = counts; «open» = opened; steps = steps; reached = record { at = at; lines = lines } }
 
 -- no goal waits. No abbreviation: the counts are not to be written out
 unfoldable pub no_counts : List ℕ
@@ -22,5 +22,5 @@ pub record Ready (text : List ℕ) (s : State) : Type 0 where
   pub small : s.goal.count ≤ 64
   pub slots : length s.counts ≡ 16
   pub sizes : (i : ℕ) → get_or s.counts i 0 ≤ 64
-  pub within : s.at ≤ length text
-  pub counted : s.lines ≤ s.at
+  pub within : s.reached.at ≤ length text
+  pub counted : s.reached.lines ≤ s.reached.at

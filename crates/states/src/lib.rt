@@ -5,6 +5,7 @@ ghost use Rattle.std.specs.Prelude.{◌≡◌};
 ghost use Rattle.states.specs.Standing.{begun_of, no_counts};
 
 use alc::Goal;
+use parts::Reached;
 
 // Where a derivation stands: the current goal, how many claims each goal that waits has, and how far the text is read.
 #[derive(Clone, Copy)]
@@ -16,21 +17,19 @@ pub struct State {
     // how many goals are open: the current one and those that wait
     pub open: usize,
     pub steps: usize,
-    pub lines: usize,
-    pub at: usize,
+    pub reached: Reached,
 }
 
 // The state at the first step: the claims of the file are the only goal.
 #[tactic(auto, unfolding(crate::specs::Standing::no_counts))]
-pub fn begun(claims: Goal, at: usize, lines: usize) -> State
-    ensures { result ≡ begun_of claims at lines }
+pub fn begun(claims: Goal, reached: Reached) -> State
+    ensures { result ≡ begun_of claims reached.at reached.lines }
 {
     State {
         goal: claims,
         counts: [0; 16],
         open: 1,
         steps: 0,
-        lines,
-        at,
+        reached,
     }
 }

@@ -58,10 +58,10 @@ fn refused(refusal: Refusal, line: usize) -> Answer
 // The next line at the state s: a step that passes, or the answer, where the derivation ends.
 pub fn next_step(text: &[u8], table: &Table, s: &State) -> Result<Passed, Answer>
     requires { Ready text.now s.now }
-    ensures { StepAt table.now s.now (read_at text.now s.now.at at_steps) result }
+    ensures { StepAt table.now s.now (read_at text.now s.now.reached.at at_steps) result }
 {
-    let line = s.lines + 1;
-    match reading::read(text, s.at, IN_STEPS) {
+    let line = s.reached.lines + 1;
+    match reading::read(text, s.reached.at, IN_STEPS) {
         Next::Found(l, at) => {
             if s.steps >= 1024 {
                 return Err(refused(Refusal::TooMany, line));
@@ -79,7 +79,7 @@ pub fn next_step(text: &[u8], table: &Table, s: &State) -> Result<Passed, Answer
             if s.open > 0 {
                 return Err(refused(Refusal::Unfinished, line));
             }
-            Err(Answer::Proved(s.lines))
+            Err(Answer::Proved(s.reached.lines))
         }
     }
 }

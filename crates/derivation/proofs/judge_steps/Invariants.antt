@@ -8,4 +8,4 @@ abbrev pub invariant-loop-answer : goal.invariant-loop-answer
 invariant-loop-answer l = Holds l.text l.table l.initial.room l.fn.s l.room l.s
 
 abbrev pub decreases-loop-answer : goal.decreases-loop-answer
-decreases-loop-answer l = length l.text - l.s.at
+decreases-loop-answer l = length l.text - l.s.reached.at

@@ -25,7 +25,7 @@ one (AddsBoth c d) n p = refl
 one (Parts c d) n p = absurd (p c d refl)
 
 -- the derivation has ended
-ended : (text : List ℕ) (T : Table) (l : List Record) (s : State) (a : Answer) → StepAt T s (read_at text s.at at_steps) (Err a) → Stepped text T l s l s (Err a)
+ended : (text : List ℕ) (T : Table) (l : List Record) (s : State) (a : Answer) → StepAt T s (read_at text s.reached.at at_steps) (Err a) → Stepped text T l s l s (Err a)
 ended text T l s a d = record { onward = tt; behind = λ cs v st. ends text T st.few s a d cs st.goals st.count st.current ∙ sym st.so }
 
 pub returns-in_err-passed : goal.returns-in_err-passed

@@ -14,7 +14,7 @@ returns-then-not-ranged c = begins_ranges _ _ _ _ _ _ (when_found _ _ _ _ _ (sym
 
 pub invariant_of-result : goal.invariant_of-result
 invariant_of-result c = record {
-  sized = sized _ _ c.args.before _ _ _ (when_found _ _ _ _ _ (sym c.read.ensures ∙ c.in-Found.is)) c.requires.bounds.2 (sym c.ranged.ensures ∙ c.if-not-ranged.false);
+  sized = sized _ _ c.args.from.lines _ _ _ (when_found _ _ _ _ _ (sym c.read.ensures ∙ c.in-Found.is)) c.requires.bounds.2 (sym c.ranged.ensures ∙ c.if-not-ranged.false);
 }
 
 pub returns-else-not-ranged : goal.returns-else-not-ranged
@@ -22,7 +22,7 @@ returns-else-not-ranged c =
     begun _ _ _ _ _ _ (when_found _ _ _ _ _ (sym c.read.ensures ∙ c.in-Found.is)) c.requires.bounds.2 (sym c.ranged.ensures ∙ c.if-not-ranged.false) c.requires.bounds.1
 
 pub returns-in-Bad : goal.returns-in-Bad
-returns-in-Bad c = begins_bad c.args.text.now c.args.start _ _ (when_bad _ _ _ (sym c.read.ensures ∙ c.in-Bad.is))
+returns-in-Bad c = begins_bad c.args.text.now c.args.from.at _ _ (when_bad _ _ _ (sym c.read.ensures ∙ c.in-Bad.is))
 
 pub returns-in-End : goal.returns-in-End
-returns-in-End c = begins_end c.args.text.now c.args.start _ _ (when_end _ _ _ (sym c.read.ensures ∙ c.in-End.is))
+returns-in-End c = begins_end c.args.text.now c.args.from.at _ _ (when_end _ _ _ (sym c.read.ensures ∙ c.in-End.is))

@@ -20,5 +20,5 @@ returns c =
     let long = sym c.len-entries.ensures.count in
     c.ended.ensures _ f.facts f.told
     ∙ sym (f.judged T cs long)
-    ∙ ap₂ (λ (k : ℕ) (s : Size). judge k (in_facts T cs s.count []) (lines_of (drop c.in_ok-size.next a.text.now))) (add-one a.before) c.new-model.ensures.size
+    ∙ ap₂ (λ (k : ℕ) (s : Size). judge k (in_facts T cs s.count []) (lines_of (drop c.in_ok-size.at a.text.now))) (add-one a.from.lines) c.new-model.ensures.size
     ∙ sym (c.in_ok-size.ensures.judged T cs long)

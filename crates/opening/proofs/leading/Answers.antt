@@ -60,27 +60,27 @@ module _ (text : List ℕ) (T : Table) (at : ℕ) (r : Listing text T at 0) wher
     ranged : All (λ s. every (in_range (length T) 0) (claim_fields (claim s)) ≡ true) (claims_in k.claims)
     ranged = subst (λ (l : List Sided). All (λ s. every (in_range (length T) 0) (claim_fields (claim s)) ≡ true) l) (sym shown) h.ranges
 
-    further : (k.at ≤ length text) × (k.lines ≤ k.at)
+    further : (k.reached.at ≤ length text) × (k.reached.lines ≤ k.reached.at)
     further = claims_bounds h.leads bounds
 
-    begins : length T ≤ 256 → k.section ≡ Proof → Begins text T (begun_of k.claims k.at k.lines)
+    begins : length T ≤ 256 → k.section ≡ Proof → Begins text T (begun_of k.claims k.reached.at k.reached.lines)
     begins low e = record {
       few = low;
       state = refl;
       small = h.few;
       cs = h.cs;
       current = h.shown;
-      walk = table_then r (claims_proof (subst (λ s. ClaimsLead text T at h.cs k.lines k.at (Ok s)) e h.leads)) (omega arith);
+      walk = table_then r (claims_proof (subst (λ s. ClaimsLead text T at h.cs k.reached.lines k.reached.at (Ok s)) e h.leads)) (omega arith);
     }
 
-    modelled : (a : Answer) → answered a ≡ judge k.lines (at_start T (claims_in k.claims)) (lines_of (drop k.at text)) → k.section ≡ Model → Ends text (answered a)
+    modelled : (a : Answer) → answered a ≡ judge k.reached.lines (at_start T (claims_in k.claims)) (lines_of (drop k.reached.at text)) → k.section ≡ Model → Ends text (answered a)
     modelled a j e =
-        let d = subst (λ s. ClaimsLead text T at h.cs k.lines k.at (Ok s)) e h.leads in
+        let d = subst (λ s. ClaimsLead text T at h.cs k.reached.lines k.reached.at (Ok s)) e h.leads in
         record {
           none = apart d (λ q. let z : ◌≡◌ {A = ℕ} 0 1 = cc in omega arith);
           so =
               j
-              ∙ ap (λ (cs : List Sided). judge k.lines (at_start T cs) (lines_of (drop k.at text))) shown
+              ∙ ap (λ (cs : List Sided). judge k.reached.lines (at_start T cs) (lines_of (drop k.reached.at text))) shown
               ∙ sym (headed ∙ through_judge (claims_model d));
         }
 

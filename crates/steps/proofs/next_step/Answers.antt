@@ -13,12 +13,12 @@ use Rattle.steps.proofs.StepLaws.{step_word}
 use Rattle.steps.proofs.next_step.Goals as goal
 
 -- what is found is what was read
-module _ (T : Table) (s : State) (text : List ℕ) (m n : Next) (read : m ≡ read_at text s.at at_steps) (e : m ≡ n) where
-  is : (r : Result Passed Answer) → StepAt T s n r → StepAt T s (read_at text s.at at_steps) r
+module _ (T : Table) (s : State) (text : List ℕ) (m n : Next) (read : m ≡ read_at text s.reached.at at_steps) (e : m ≡ n) where
+  is : (r : Result Passed Answer) → StepAt T s n r → StepAt T s (read_at text s.reached.at at_steps) r
   is r h = subst (λ k. StepAt T s k r) (sym e ∙ read) h
 
   -- and so is a refusal that a function makes
-  told : (a b : Answer) → a ≡ b → StepAt T s n (Err b) → StepAt T s (read_at text s.at at_steps) (Err a)
+  told : (a b : Answer) → a ≡ b → StepAt T s n (Err b) → StepAt T s (read_at text s.reached.at at_steps) (Err a)
   told a b f h = is (Err a) (subst (λ k. StepAt T s n (Err k)) (sym f) h)
 
 pub returns-then-s-ge1024 : goal.returns-then-s-ge1024
