@@ -88,14 +88,11 @@ pub fn read_claims(text: &[u8], start: usize, entries: usize) -> Result<Heading,
                         reached: Reached { at, lines: n },
                     });
                 }
-                match next_claim(l, entries, claims.count) {
-                    Ok(claim) => {
-                        claims = goals::with(claims, claim);
-                    }
-                    Err(refusal) => {
-                        return Err(Refused { refusal, line });
-                    }
-                }
+                let claim = next_claim(l, entries, claims.count).map_err(|refusal| Refused {
+                    refusal,
+                    line,
+                })?;
+                claims = goals::with(claims, claim);
             }
             Next::Bad => {
                 return Err(Refused {

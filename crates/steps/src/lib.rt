@@ -69,10 +69,8 @@ pub fn next_step(text: &[u8], table: &Table, s: &State) -> Result<Passed, Answer
             if s.open == 0 {
                 return Err(refused(Refusal::NoGoal, line));
             }
-            match turn_at(table, l, s) {
-                Ok(turn) => Ok(Passed { turn, at }),
-                Err(refusal) => Err(refused(refusal, line)),
-            }
+            let turn = turn_at(table, l, s).map_err(|refusal| refused(refusal, line))?;
+            Ok(Passed { turn, at })
         }
         Next::Bad => Err(refused(Refusal::Malformed, line)),
         Next::End => {

@@ -74,15 +74,9 @@ pub fn read_table(text: &[u8]) -> Result<Listed, Refused>
                 if l.word >= lines::IS {
                     return Ok(Listed { table, at });
                 }
-                match next_entry(&table, l) {
-                    Ok(entry) => {
-                        table.push(entry);
-                        at = next;
-                    }
-                    Err(refusal) => {
-                        return Err(Refused { refusal, line });
-                    }
-                }
+                let entry = next_entry(&table, l).map_err(|refusal| Refused { refusal, line })?;
+                table.push(entry);
+                at = next;
             }
             Next::Bad => {
                 return Err(Refused {
