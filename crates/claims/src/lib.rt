@@ -68,6 +68,7 @@ fn section(word: u8) -> Section
 }
 
 // Reads the claims, from a position on, behind a table of so many lines, up to `proof` or `model`.
+// No `Reached`: the lines before them are the table's, whose count is asked anyway.
 pub fn read_claims(text: &[u8], start: usize, entries: usize) -> Result<Heading, Refused>
     requires { (start ≤ length text.now) × (entries ≤ start) × (entries ≤ 256) }
     ensures { (T : Table) → length T ≡ entries → ClaimsRead text.now T start result }
