@@ -9,6 +9,7 @@ use mathlib.Core.List.{List, [], ◌∷◌, ◌++◌, map}
 use mathlib.Core.Path.{◌≡◌, refl, sym, ap, ap₂, ◌∙◌}
 use lib.Dec.{eqb, ltb, leb}
 use lib.ListN.{length, get_or, length-map, length-append}
+use borrow.Author.Tests.{eqb-true, eq-eqb}
 use Rattle.std.proofs.lemmas.Grind.{common_steps}
 use Rattle.std.proofs.Common.{Result, Ok}
 use Rattle.std.specs.List.{list_any}
@@ -57,6 +58,10 @@ keeping_record : (b : Bool) (ns cs : List Sided) → keeping b (map record_of ns
 keeping_record false ns cs = refl
 keeping_record true [] cs = refl
 keeping_record true (s ∷ ns) cs = lacking_record s cs
+
+-- which of two numbers comes first in a comparison doesn't matter
+pub eqb_turn : (a b : ℕ) → eqb a b ≡ eqb b a
+eqb_turn a b = bool_by (eqb a b) (eqb b a) (λ h. eq-eqb b a (sym (eqb-true a b h))) (λ h. eq-eqb a b (sym (eqb-true b a h)))
 
 -- names
 name_claim : (a : ℕ) (s : Sided) → not (has_name a (record_of s)) ≡ avoids (a ∷ []) s
