@@ -2,20 +2,20 @@
 #![tactic(auto)]
 
 ghost use Rattle.std.specs.Prelude.{◌≡◌, ℕ, ◌<◌};
-ghost use Rattle.models.specs.Arrays.{Inside, seats, seats_of};
+ghost use Rattle.models.specs.Arrays.{seats, seats_of};
 
 use alc::{Atom, Element, Name, Role};
 use sets::{Set, Size};
 
 // A model of a size: the element at which each name is placed, the elements of each atom, and at 32 r + d the elements to which role r leads from
-// element d. Each placed name is at an element below 32, whatever the size is, so that it can be looked for in a set.
-#[derive(Drop)]
+// element d. That each place is an element of the model is no part of the type, since `place`, `has` and `edge` answer for any places: it is asked where
+// claims are judged.
+#[derive(Clone, Copy)]
 pub struct Model {
     pub size: Size,
     places: [Option<Element>; 64],
     atoms: [Set; 64],
     edges: [Set; 512],
-    pub ghost inside: { Inside 32 places },
 }
 
 impl Model {

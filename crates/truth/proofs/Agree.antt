@@ -1,7 +1,7 @@
 -- A claim's truth, read off the sets, is its truth by the meaning of the concepts: its numbers are below the count of the lines and names are
 -- at elements of the model, and there the sets have what the concepts have.
 -- Assumes nothing.
-use Prim.Native.Nat.{ℕ, suc, ◌<◌}
+use Prim.Native.Nat.{ℕ, suc, ◌≤◌, ◌<◌}
 use mathlib.Core.Bool.{Bool, not, cond, ◌||◌}
 use mathlib.Core.List.{List, [], ◌∷◌}
 use mathlib.Core.Path.{◌≡◌, refl, ap, ap₂, ◌∙◌}
@@ -21,7 +21,15 @@ use Rattle.models.specs.declared.Model.{Model}
 use Rattle.truth.specs.Truth.{truth_in, wrong_in}
 use Rattle.extents.proofs.ExtentLaws.{every_same}
 use Rattle.alc.proofs.ListFacts.{All-map}
+use Rattle.extents.proofs.Trees.{below_more}
 use Rattle.truth.proofs.ClaimLaws.{seat_low}
+
+-- in range of a table, in range of a longer one
+pub claimed_more : (n m : ℕ) (g : Records) → n ≤ m → Claimed n g → Claimed m g
+claimed_more n m g l c = record {
+  few = c.few;
+  numbers = All-map (λ s h. All-map (below_more n m 0 l) (claim_fields (claim s)) h) (claims_in g) c.numbers;
+}
 
 first_same : {A : Type 0} (p q : A → Bool) (l : List A) → All (λ x. p x ≡ q x) l → first_at p l ≡ first_at q l
 first_same p q [] h = refl

@@ -17,8 +17,10 @@ use models::Model;
 use sets::{Set, Size, set_of};
 
 // The element at which a name is placed; 0 where it is not.
+#[tactic(auto, using(crate::proofs::ClaimLaws::seat_in_set))]
 fn seat(model: &Model, a: Name) -> Element
-    requires { a.0 < 64 }
+    requires name { a.0 < 64 }
+    requires inside { Inside model.now.size.count model.now.places }
     ensures place { result.0 ≡ seat_of model.now a.0 }
     ensures low { result.0 < 32 }
 {
@@ -42,7 +44,8 @@ fn within(size: Size, x: Set, y: Set) -> bool
 
 // The claim is true in the model, whose sets for the lines of the table are `ext`.
 fn holds(c: Claim, model: &Model, ext: &[Set; 256]) -> bool
-    requires { All (Below 256 0) (claim_fields (claim_of c)) }
+    requires numbers { All (Below 256 0) (claim_fields (claim_of c)) }
+    requires inside { Inside model.now.size.count model.now.places }
     ensures { result ≡ truth_in ext.now (interp_shown model.now) (claim_of c) }
 {
     let kind = c.kind;
@@ -57,7 +60,8 @@ fn holds(c: Claim, model: &Model, ext: &[Set; 256]) -> bool
 
 // The model gets the claim wrong: a left claim that is false, or a right claim that is true.
 fn wrong(c: Claim, model: &Model, ext: &[Set; 256]) -> bool
-    requires { All (Below 256 0) (claim_fields (claim_of c)) }
+    requires numbers { All (Below 256 0) (claim_fields (claim_of c)) }
+    requires inside { Inside model.now.size.count model.now.places }
     ensures { result ≡ wrong_in ext.now (interp_shown model.now) (sided_of c) }
 {
     let side = c.side;
@@ -71,7 +75,8 @@ fn wrong(c: Claim, model: &Model, ext: &[Set; 256]) -> bool
 // The place of the first claim that the model gets wrong, or the count of the claims. `ext` has the elements of each line of the table.
 // The form is asked for: a loop over the claims that yields the first wrong claim's place by `break`.
 fn first_wrong(claims: Goal, model: &Model, ext: &[Set; 256]) -> usize
-    requires { Claimed 256 claims }
+    requires claimed { Claimed 256 claims }
+    requires inside { Inside model.now.size.count model.now.places }
     ensures { result ≡ first_at (wrong_in ext.now (interp_shown model.now)) (claims_in claims) }
 {
     let n = claims.count;

@@ -2,8 +2,5 @@
 use Rattle.models.proofs.Stores.{blank_seats, blank_inside, blank_world}
 use Rattle.models.proofs.Model.new.Goals as goal
 
-pub invariant_of-result : goal.invariant_of-result
-invariant_of-result c = record { inside = blank_inside 32 }
-
 pub returns-clause-tells : goal.returns-clause-tells
 returns-clause-tells c = record { world = blank_world c.args.size.count; seats = blank_seats; inside = blank_inside c.args.size.count }
