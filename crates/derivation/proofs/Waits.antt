@@ -11,6 +11,8 @@ use borrow.Author.Tests.{ne_eqb}
 use lib.ListN.{length, get_or, set, take, length-set}
 use lib.Seq.{get_or-set_same, get_or-set_other}
 use Rattle.std.specs.Prelude.{Ok}
+use Rattle.lines.specs.Text.{at_steps}
+use Rattle.lines.specs.Walk.{read_at}
 use Rattle.alc.specs.Table.{Table}
 use Rattle.alc.specs.Claims.{Sided, Goal}
 use Rattle.alc.specs.Shown.{records, record_of, Shows}
@@ -23,10 +25,10 @@ use Rattle.shelf.specs.Stored.{stored, fetched}
 use Rattle.shelf.proofs.Back.{stored_below, fetched_same, fetched_stored}
 use Rattle.states.specs.Standing.{state_of, Ready}
 use Rattle.states.specs.declared.State.{State}
-use Rattle.steps.specs.Acting.{Current, from}
+use Rattle.steps.specs.Acting.{Current, from, StepAt}
 use Rattle.steps.specs.declared.Passed.{Passed}
 use Rattle.steps.proofs.StepWalk.{Passing, Led}
-use Rattle.derivation.specs.Waiting.{last_of, Waiting, Rest, Stands, closed_of, PutAside, Stepped}
+use Rattle.derivation.specs.Waiting.{last_of, Waiting, Rest, Stands, closed_of, PutAside, Done, Stepped}
 
 -- the goals below place k wait on in a room that is the same below it
 stays : (l m : List Record) (counts counts' : List ℕ) (k : ℕ) → take (k * 64) m ≡ take (k * 64) l → ((j : ℕ) → j < k → get_or counts' j 0 ≡ get_or counts j 0)
@@ -67,6 +69,10 @@ below l counts x hs w = w.1
 
 -- a step that passes
 module _ (text : List ℕ) (l : List Record) (s : State) (big : 1088 ≤ length l) (v : Ready text s) (p : Passed) where
+  -- the line is that step
+  abbrev Step : Table → Type 0
+  Step T = StepAt T s (read_at text s.reached.at at_steps) (Ok p)
+
   -- the state behind it, with another goal, other counts and another count of open goals
   abbrev behind : Records → List ℕ → ℕ → State
   behind g counts n = state_of g counts n (s.steps + 1) (s.reached.lines + 1) p.at
@@ -76,7 +82,7 @@ module _ (text : List ℕ) (l : List Record) (s : State) (big : 1088 ≤ length 
   ready q g counts n small slots sizes few =
       (record { few = few; small = small; slots = slots; sizes = sizes; within = q.within; counted = omega (arith, v.counted, q.later) }, q.later)
 
-  module _ (T : Table) (q : Passing T text s p) where
+  module _ (T : Table) (k : Step T) (q : Passing T text s p) where
     -- the derivation stands behind it, if it does so for each goal that was open and those that wait
     stands : (m : List Record) (r : State)
         → ((cs : List Sided) (w : Verdict) (x : Goal) (hs : List Goal) → length T ≤ 256 → s.open ≡ suc (length hs) → Waiting l s.counts hs → w ≡ from T cs text s (x ∷ hs)
@@ -91,7 +97,7 @@ module _ (text : List ℕ) (l : List Record) (s : State) (big : 1088 ≤ length 
     -- ONE PREMISE
     pub one_more : (g : Records) → length (added p.turn.leaves) ≡ 1 → records g ≡ premise_at 0 p.turn (records s.goal) → g.count ≤ 64
         → Stepped text T l s l (behind g s.counts s.open) (Ok tt)
-    one_more g n sg small = record { onward = ready q g s.counts s.open small v.slots v.sizes v.few; behind = stands l (behind g s.counts s.open) go }
+    one_more g n sg small = record { does = record { passed = p; step = k; done = Done.one g n sg }; onward = ready q g s.counts s.open small v.slots v.sizes v.few; behind = stands l (behind g s.counts s.open) go }
       where
         go : (cs : List Sided) (w : Verdict) (x : Goal) (hs : List Goal) → length T ≤ 256 → s.open ≡ suc (length hs) → Waiting l s.counts hs → w ≡ from T cs text s (x ∷ hs)
             → Led T cs text s p x hs → Stands T cs text w l (behind g s.counts s.open)
@@ -106,7 +112,7 @@ module _ (text : List ℕ) (l : List Record) (s : State) (big : 1088 ≤ length 
 
     -- NO PREMISE
     pub none_more : length (added p.turn.leaves) ≡ 0 → Stepped text T l s l (closed_of l (behind s.goal s.counts s.open)) (Ok tt)
-    none_more n = record { onward = ready q _ s.counts (s.open - 1) small v.slots v.sizes (omega (arith, v.few)); behind = stands l (closed_of l (behind s.goal s.counts s.open)) go }
+    none_more n = record { does = record { passed = p; step = k; done = Done.none n }; onward = ready q _ s.counts (s.open - 1) small v.slots v.sizes (omega (arith, v.few)); behind = stands l (closed_of l (behind s.goal s.counts s.open)) go }
       where
         small : (cond (eqb (s.open - 1) 0) s.goal (last_of l s.counts (s.open - 1))).count ≤ 64
         small = by (eqb (s.open - 1) 0)
@@ -144,7 +150,7 @@ module _ (text : List ℕ) (l : List Record) (s : State) (big : 1088 ≤ length 
     -- TWO PREMISES
     pub two_more : (g : Records) (m : List Record) (r : State) → length (added p.turn.leaves) ≡ 2 → records g ≡ premise_at 0 p.turn (records s.goal) → g.count ≤ 64
         → PutAside l (behind g s.counts s.open) p.turn m r → Stepped text T l s m r (Ok tt)
-    two_more g m r n sg small a = record { onward = onward; behind = stands m r go }
+    two_more g m r n sg small a = record { does = record { passed = p; step = k; done = Done.two g n sg a }; onward = onward; behind = stands m r go }
       where
         few : s.open ≤ 16
         few = omega (arith, q.few, n, q.some)

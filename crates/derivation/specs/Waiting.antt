@@ -1,6 +1,8 @@
 -- The goals that wait, in the lent room: each has a place of 64 records, in the order in which they were put aside.
 -- Assumes nothing.
 use Rattle.std.specs.Prelude.{ℕ, ◌+◌, ◌-◌, ◌*◌, ◌≤◌, ◌<◌, cond, List, [], ◌∷◌, ◌≡◌, eqb, length, get_or, set, Result, Ok, Err}
+use Rattle.lines.specs.Text.{at_steps}
+use Rattle.lines.specs.Walk.{read_at}
 use Rattle.alc.specs.Table.{Table}
 use Rattle.alc.specs.Claims.{Sided, Goal}
 use Rattle.alc.specs.Shown.{Shows, records, answered}
@@ -13,7 +15,8 @@ use Rattle.goals.specs.Records.{added, premise_at}
 use Rattle.shelf.specs.Stored.{stored, fetched, goal_of}
 use Rattle.states.specs.Standing.{state_of, Ready}
 use Rattle.states.specs.declared.State.{State}
-use Rattle.steps.specs.Acting.{Current, from}
+use Rattle.steps.specs.Acting.{Current, from, StepAt}
+use Rattle.steps.specs.declared.Passed.{Passed}
 
 -- the goal put aside last, of n, as the room l holds it with these counts of claims
 abbrev pub last_of : List Record → List ℕ → ℕ → Records
@@ -63,6 +66,30 @@ abbrev pub Onward : List ℕ → State → State → Result (Unit {0}) Answer �
 Onward text s r (Ok u) = Ready text r × (s.reached.at < r.reached.at)
 Onward text s r (Err a) = Unit {0}
 
+-- the state behind a step that passes, with another goal: the step is counted, the line too, and the text is read up to behind it
+abbrev pub counted : State → Passed → Records → State
+counted s p g = state_of g s.counts s.open (s.steps + 1) (s.reached.lines + 1) p.at
+
+-- what a step that passes does to the room l and the state s, by how many premises it leaves: m is the room, and r the state
+pub data Done (l : List Record) (s : State) (p : Passed) : List Record → State → Type 0 where
+  none : length (added p.turn.leaves) ≡ 0 → Done l s p l (closed_of l (counted s p s.goal))
+  one : (g : Records) → length (added p.turn.leaves) ≡ 1 → records g ≡ premise_at 0 p.turn (records s.goal) → Done l s p l (counted s p g)
+  two : {m : List Record} {r : State} (g : Records) → length (added p.turn.leaves) ≡ 2 → records g ≡ premise_at 0 p.turn (records s.goal)
+      → PutAside l (counted s p g) p.turn m r → Done l s p m r
+
+-- the line is a step that passes, and is done
+pub record Took (text : List ℕ) (T : Table) (l : List Record) (s : State) (m : List Record) (r : State) : Type 0 where
+  pub passed : Passed
+  pub step : StepAt T s (read_at text s.reached.at at_steps) (Ok passed)
+  pub done : Done l s passed m r
+
+-- what a line does; where it ends the derivation room and state stay as they are
+abbrev pub Does : List ℕ → Table → List Record → State → List Record → State → Result (Unit {0}) Answer → Type 0
+Does text T l s m r (Ok u) = Took text T l s m r
+Does text T l s m r (Err a) = StepAt T s (read_at text s.reached.at at_steps) (Err a) × (m ≡ l) × (r ≡ s)
+
+-- one line, with the room and the state behind it
 pub record Stepped (text : List ℕ) (T : Table) (l : List Record) (s : State) (m : List Record) (r : State) (e : Result (Unit {0}) Answer) : Type 0 where
+  pub does : Does text T l s m r e
   pub onward : Onward text s r e
   pub behind : (cs : List Sided) (v : Verdict) → Stands T cs text v l s → Behind T cs text v m r e

@@ -40,7 +40,7 @@ fn put_aside(room: &mut [Claim], s: &mut State, turn: Turn)
     ensures { PutAside room.old s.old turn room.new s.new }
 {
     let waiting = s.open - 1;
-    shelf::store(room, waiting * PLACE, &turns::other(s.goal, turn));
+    shelf::store(room, waiting * PLACE, turns::other(s.goal, turn));
     s.counts[waiting] = s.goal.count as u8;
     s.open += 1;
 }
@@ -73,6 +73,7 @@ fn step(room: &mut [Claim], text: &[u8], table: &Table, s: &mut State) -> Result
 }
 
 // Judges the lines from the state s on as steps. The answer is the verdict from there on, and every record of the room is blank afterwards.
+#[inline(never)]
 pub fn judge_steps(room: &mut [Claim], text: &[u8], table: &Table, s: State) -> Answer
     requires room { 1088 ≤ length room.old }
     requires ready { Ready text.now s }

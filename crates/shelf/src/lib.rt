@@ -8,9 +8,9 @@ ghost use Rattle.shelf.specs.Stored.{stored, fetched, goal_of};
 use alc::{Claim, Goal};
 
 // The goal's records go into the room, from base on.
-pub fn store(room: &mut [Claim], base: usize, g: &Goal)
-    requires { (g.now.count ≤ 64) × (base + g.now.count ≤ length room.old) }
-    ensures { room.new ≡ stored room.old base g.now.claims g.now.count }
+pub fn store(room: &mut [Claim], base: usize, g: Goal)
+    requires { (g.count ≤ 64) × (base + g.count ≤ length room.old) }
+    ensures { room.new ≡ stored room.old base g.claims g.count }
 {
     room[base..base + g.count].copy_from_slice(&g.claims[..g.count]);
 }

@@ -2,5 +2,7 @@
 -- Assumes nothing.
 use Rattle.derivation.proofs.judge_steps.Goals as goal
 
+-- The answer is the verdict from the room and the state that the loop came to on,
+-- and that is the verdict from the beginning.
 pub returns-clause-answer : goal.returns-clause-answer
 returns-clause-answer c = λ cs v st. c.in-Err.ensures.behind cs v (c.loop-answer.invariant.after cs v st)

@@ -1,6 +1,6 @@
 -- `derivation::step` meets its contract: a line that ends the derivation has the verdict, and what one that passes does to the room and the state is one
 -- of the laws of Waits, by how many premises it leaves. Assumes nothing.
-use Rattle.std.proofs.Common.{ℕ, ◌≡◌, List, length, refl, sym, ap, subst, ◌∙◌, Ok, Err, arith}
+use Rattle.std.proofs.Common.{ℕ, ◌≡◌, List, length, refl, sym, ap, subst, ◌∙◌, Ok, Err}
 use Rattle.lines.specs.Text.{at_steps}
 use Rattle.lines.specs.Walk.{read_at}
 use Rattle.alc.specs.Table.{Table}
@@ -26,7 +26,7 @@ one (Parts c d) n p = absurd (p c d refl)
 
 -- the derivation has ended
 ended : (text : List ℕ) (T : Table) (l : List Record) (s : State) (a : Answer) → StepAt T s (read_at text s.reached.at at_steps) (Err a) → Stepped text T l s l s (Err a)
-ended text T l s a d = record { onward = tt; behind = λ cs v st. ends text T st.few s a d cs st.goals st.count st.current ∙ sym st.so }
+ended text T l s a d = record { does = (d, refl, refl); onward = tt; behind = λ cs v st. ends text T st.few s a d cs st.goals st.count st.current ∙ sym st.so }
 
 pub returns-in_err-passed : goal.returns-in_err-passed
 returns-in_err-passed c =
@@ -40,14 +40,14 @@ turn-requires-clause-makes c = (goes _ _ _ _ c.in_ok-passed.ensures).makes
 pub returns-in-Closes : goal.returns-in-Closes
 returns-in-Closes c =
     subst (λ (r : State). Stepped c.args.text.now c.args.table.now c.args.room.now c.args.s.now c.args.room.now r (Ok tt)) (sym c.close.ensures)
-    (none_more _ _ _ c.requires.room c.requires.ready _ _ (goes _ _ _ _ c.in_ok-passed.ensures) (ap (λ (o : Outcome). length (added o)) c.in-Closes.is))
+    (none_more _ _ _ c.requires.room c.requires.ready _ _ c.in_ok-passed.ensures (goes _ _ _ _ c.in_ok-passed.ensures) (ap (λ (o : Outcome). length (added o)) c.in-Closes.is))
 
 pub returns-in-Parts : goal.returns-in-Parts
 returns-in-Parts c =
-    two_more _ _ _ c.requires.room c.requires.ready _ _ (goes _ _ _ _ c.in_ok-passed.ensures) _ _ _ (ap (λ (o : Outcome). length (added o)) c.in-Parts.is)
+    two_more _ _ _ c.requires.room c.requires.ready _ _ c.in_ok-passed.ensures (goes _ _ _ _ c.in_ok-passed.ensures) _ _ _ (ap (λ (o : Outcome). length (added o)) c.in-Parts.is)
     c.turn.ensures.shows c.turn.ensures.few c.put_aside.ensures
 
 pub returns-in_default : goal.returns-in_default
 returns-in_default c =
-    one_more _ _ _ c.requires.room c.requires.ready _ _ (goes _ _ _ _ c.in_ok-passed.ensures) _ (one _ c.in_default.not-Closes c.in_default.not-Parts)
+    one_more _ _ _ c.requires.room c.requires.ready _ _ c.in_ok-passed.ensures (goes _ _ _ _ c.in_ok-passed.ensures) _ (one _ c.in_default.not-Closes c.in_default.not-Parts)
     c.turn-in_default.ensures.shows c.turn-in_default.ensures.few
