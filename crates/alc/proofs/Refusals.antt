@@ -57,6 +57,10 @@ pub handed_on : {A E : Type 0} (r : Result A E) (e : E) → IsErrAnd r (λ f. f 
 handed_on (Ok x) e h = absurd h
 handed_on (Err f) e h = ap Err h
 
+-- what is a value passes every row, and what is said of a value holds of it
+pub passed : {A : Type 0} (Q : A → Type 0) (r : Result A Refusal) (x : A) (k : ℕ) → r ≡ Ok x → row_number r ≡ k → IfOk r Q → (0 ≡ k) × Q x
+passed Q r x k q n h = (subst (λ z. row_number z ≡ k) q n, subst (λ z. IfOk z Q) q h)
+
 ok : {A E : Type 0} {x y : A} → ◌≡◌ {A = Result A E} (Ok x) (Ok y) → x ≡ y
 ok e = cc
 
@@ -68,10 +72,6 @@ module _ {A B : Type 0} (P : Refusal → B → Type 0) (r : Result A Refusal) (s
       go : (z : Result A Refusal) → MatchResult z (λ y. s ≡ Ok y) (λ e. IsErrAnd s (P e)) → z ≡ Ok x
       go (Ok y) n = ap Ok (ok (sym n ∙ q))
       go (Err e) n = absurd (subst (λ z. IsErrAnd z (P e)) q n)
-
-  -- it passes every row, and what is said of a value holds of it
-  pub passing : (Q : A → Type 0) (x : A) (k : ℕ) → s ≡ Ok x → row_number r ≡ k → IfOk r Q → (0 ≡ k) × Q x
-  passing Q x k q n h = (subst (λ z. row_number z ≡ k) (value x q) n, subst (λ z. IfOk z Q) (value x q) h)
 
   -- an error that `map_err` hands on was made of a refusal
   pub made_of : (g : Refusal → B) (f : B) → s ≡ Err f → ((e : Refusal) → P e f → f ≡ g e) → (e : Refusal) × (r ≡ Err e) × (f ≡ g e)

@@ -94,4 +94,4 @@ row_number (Err k) = number_of k
 abbrev pub answered : Answer → Verdict
 answered (Proved n) = proved n
 answered (Refuted n) = refuted n
-answered (Refused r) = refused (number_of r.refusal) r.line
+answered (Refused k n) = refused k n

@@ -1,7 +1,7 @@
 // The claims of a dossier, read line by line into a goal. Words and numbers come from `reading`, and no byte is seen here.
 #![tactic(auto)]
 
-ghost use Rattle.std.specs.Prelude.{◌≡◌, ◌<◌, ◌≤◌, length, cond, eqb, IfOk};
+ghost use Rattle.std.specs.Prelude.{◌≡◌, ◌<◌, ◌≤◌, ◌+◌, length, cond, eqb, IfOk};
 ghost use Rattle.lines.specs.Text.{on_left, on_right};
 ghost use Rattle.lines.specs.Walk.{claims_from, sections_from};
 ghost use Rattle.alc.specs.Rows.{refusal};
@@ -9,9 +9,9 @@ ghost use Rattle.alc.specs.Table.{Table};
 ghost use Rattle.alc.specs.Shown.{record_of, row_number};
 ghost use Rattle.parts.specs.Parts.{sided_in, claim_rows, section_at, ClaimsRead};
 
-use alc::{Claim, Concept, Name, Refusal, Refused, Role};
+use alc::{Claim, Concept, Goal, Name, Refusal, Role};
 use lines::{IN_CLAIMS, LEFT, Line, Next, RIGHT};
-use parts::{Heading, Reached, Section, ranged};
+use parts::{Claims, Heading, Reached, Section, Stopped, ranged};
 
 // The side of a claim.
 fn side_of(l: Line) -> u8
@@ -67,9 +67,18 @@ fn section(word: u8) -> Section
     Section::Model
 }
 
+// The line behind so many others is refused, which begins at a position: with what was read before it.
+fn stopped(refusal: Refusal, claims: Goal, at: usize, lines: usize) -> Stopped<Claims>
+    requires { lines < 18446744073709551615 }
+    ensures { result ≡ record { refused = record { refusal = refusal; line = lines + 1 }; read = record { claims = claims; reached = record { at = at; lines = lines } } } }
+{
+    let reached = Reached { at, lines };
+    Stopped::new(refusal, lines + 1, Claims { claims, reached })
+}
+
 // Reads the claims, from a position on, behind a table of so many lines, up to `proof` or `model`.
 // No `Reached`: the lines before them are the table's, whose count is asked anyway.
-pub fn read_claims(text: &[u8], start: usize, entries: usize) -> Result<Heading, Refused>
+pub fn read_claims(text: &[u8], start: usize, entries: usize) -> Result<Heading, Stopped<Claims>>
     requires { (start ≤ length text.now) × (entries ≤ start) × (entries ≤ 256) }
     ensures { (T : Table) → length T ≡ entries → ClaimsRead text.now T start result }
 {
@@ -77,36 +86,25 @@ pub fn read_claims(text: &[u8], start: usize, entries: usize) -> Result<Heading,
     let mut n = entries;
     let mut claims = goals::empty();
     loop {
-        let line = n + 1;
         match reading::read(text, at, IN_CLAIMS) {
             Next::Found(l, next) => {
-                at = next;
-                n = line;
+                let lines = n + 1;
                 if l.word >= lines::PROOF {
                     return Ok(Heading {
                         claims,
                         section: section(l.word),
-                        reached: Reached { at, lines: n },
+                        reached: Reached { at: next, lines },
                     });
                 }
-                let claim = next_claim(l, entries, claims.count).map_err(|refusal| Refused {
-                    refusal,
-                    line,
-                })?;
-                claims = goals::with(claims, claim);
+                match next_claim(l, entries, claims.count) {
+                    Ok(claim) => claims = goals::with(claims, claim),
+                    Err(refusal) => return Err(stopped(refusal, claims, at, n)),
+                }
+                at = next;
+                n = lines;
             }
-            Next::Bad => {
-                return Err(Refused {
-                    refusal: Refusal::Malformed,
-                    line,
-                });
-            }
-            Next::End => {
-                return Err(Refused {
-                    refusal: Refusal::Unfinished,
-                    line,
-                });
-            }
+            Next::Bad => return Err(stopped(Refusal::Malformed, claims, at, n)),
+            Next::End => return Err(stopped(Refusal::Unfinished, claims, at, n)),
         }
     }
 }

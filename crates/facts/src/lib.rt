@@ -146,13 +146,14 @@ fn refuted(text: &[u8], from: Reached, table: &Table, claims: Goal) -> Result<us
     ended(claims, n, table, &model)
 }
 
-// Judges a model from its first line on, which is its size.
+// Judges a model from its first line on, which is its size. Not part of its caller, so that a derivation is judged without the stack that a model takes.
+#[inline(never)]
 pub fn judge_model(text: &[u8], from: Reached, table: &Table, claims: Goal) -> Answer
     requires { Asked text.now from.at from.lines (length table.now) claims }
     ensures { answered result ≡ judge from.lines (at_start table.now (claims_in claims)) (lines_of (drop from.at text.now)) }
 {
     match refuted(text, from, table, claims) {
         Ok(n) => Answer::Refuted(n),
-        Err(r) => Answer::Refused(r),
+        Err(r) => Answer::from(r),
     }
 }

@@ -25,15 +25,16 @@ abbrev next : List ℕ → ℕ → Verdict
 next text n = elim n [ zero ↦ judge 0 begin (lines_of text) | suc k ↦ refused (suc k) 0 ]
 
 module _ (n : ℕ) (text : List ℕ) where
-  verdict_narrow : n < 1088 → verdict n text ≡ refused 14 0
+  -- a narrow room is refused, and then a long text; else the verdict is that of the lines
+  pub verdict_narrow : n < 1088 → verdict n text ≡ refused 14 0
   unfolding verdict
   verdict_narrow h = let e : refusal (outer_rows n text) ≡ 14 = rw (lt-leb 1088 n h) in ap (next text) e
 
-  verdict_long : 1088 ≤ n → 65535 < length text → verdict n text ≡ refused 1 0
+  pub verdict_long : 1088 ≤ n → 65535 < length text → verdict n text ≡ refused 1 0
   unfolding verdict
   verdict_long w h = let e : refusal (outer_rows n text) ≡ 1 = rw (le-leb 1088 n w, lt-leb (length text) 65535 h) in ap (next text) e
 
-  verdict_short : 1088 ≤ n → length text ≤ 65535 → verdict n text ≡ judge 0 begin (lines_of text)
+  pub verdict_short : 1088 ≤ n → length text ≤ 65535 → verdict n text ≡ judge 0 begin (lines_of text)
   unfolding verdict
   verdict_short w h = let e : refusal (outer_rows n text) ≡ 0 = rw (le-leb 1088 n w, le-leb (length text) 65535 h) in ap (next text) e
 

@@ -1,3 +1,4 @@
--- `Begins`: what an opening comes to. `Determined`: the text fixes it.
+-- `Begins`: what an opening comes to. `Leading`: what the lines lead to. `Determined`: the text fixes it.
 pub mod Begins
+pub mod Leading
 pub mod Determined

@@ -1,13 +1,12 @@
 -- What stands before a derivation: its table, its claims and where its first step begins; or the verdict where none follows.
 -- Assumes nothing.
-use Rattle.std.specs.Prelude.{ℕ, ◌≤◌, List, [], ◌∷◌, ◌≡◌, length, Result, Ok, Err}
+use Rattle.std.specs.Prelude.{ℕ, ◌≤◌, List, [], ◌∷◌, ◌≡◌, length}
 use Rattle.lines.specs.Text.{lines_of}
 use Rattle.alc.specs.Table.{Table}
 use Rattle.alc.specs.Claims.{Sided}
 use Rattle.alc.specs.Shown.{Shows, answered}
 use Rattle.alc.specs.Verdict.{Verdict, begin, judge, verdict}
 use Rattle.alc.specs.declared.Answer.{Answer}
-use Rattle.alc.specs.declared.Refused.{Refused}
 use Rattle.parts.specs.Parts.{in_steps, Through}
 use Rattle.states.specs.Standing.{begun_of}
 use Rattle.states.specs.declared.State.{State}
@@ -33,10 +32,9 @@ pub record Ends (text : List ℕ) (v : Verdict) : Type 0 where
   pub so : v ≡ judge 0 begin (lines_of text)
 
 -- what the lines of a text lead to: a derivation, or a verdict
-abbrev pub Leads : List ℕ → Result Opening Refused → Type 0
-Leads text (Ok (Decided a)) = Ends text (answered a)
-Leads text (Ok (Follows T s)) = Begins text T s
-Leads text (Err e) = Ends text (answered (Answer.Refused e))
+abbrev pub Leads : List ℕ → Opening → Type 0
+Leads text (Decided a) = Ends text (answered a)
+Leads text (Follows T s) = Begins text T s
 
 -- a derivation follows in a text with a lent room of n records
 pub record Following (n : ℕ) (text : List ℕ) (T : Table) (s : State) : Type 0 where

@@ -32,7 +32,7 @@ fn pack_answer(answer: Answer) -> u64
     match answer {
         Answer::Proved(lines) => pack(PROVED, 0, lines),
         Answer::Refuted(lines) => pack(REFUTED, 0, lines),
-        Answer::Refused(r) => pack(REFUSED, r.refusal.number(), r.line),
+        Answer::Refused(number, line) => pack(REFUSED, number, line),
     }
 }
 

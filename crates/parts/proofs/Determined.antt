@@ -24,6 +24,8 @@ use Rattle.alc.specs.Shown.{record_of, records}
 use Rattle.alc.specs.Verdict.{State, place, rows}
 use Rattle.parts.specs.declared.Listed.{Listed}
 use Rattle.parts.specs.declared.Heading.{Heading}
+use Rattle.parts.specs.declared.Stopped.{Stopped}
+use Rattle.parts.specs.declared.Claims.{Claims as Read}
 use Rattle.std.specs.Prelude.{Result, Ok, Err}
 use Rattle.alc.specs.declared.Refused.{Refused}
 use Rattle.alc.proofs.Refusals.{number_some, refused_once}
@@ -87,11 +89,14 @@ module _ {text : List ℕ} {T U : Table} {at to k m : ℕ} (t : Listing text T a
       ∙ sym (table_number_lem u.ends)
 
 -- and so are two readings: no refusal has the number 0
-pub one_listed : (text : List ℕ) (r s : Result Listed Refused) → TableRead text r → TableRead text s → r ≡ s
+pub one_listed : (text : List ℕ) (r s : Result Listed (Stopped Listed)) → TableRead text r → TableRead text s → r ≡ s
 one_listed text (Ok r) (Ok s) t u = ap₂ (λ (T : Table) (i : ℕ). Ok (record { table = T; at = i })) (one_table t u) (same_end t u).1
-one_listed text (Ok r) (Err f) t u = absurd (number_some f.refusal (sym (one_end t u.listing)))
-one_listed text (Err e) (Ok s) t u = absurd (number_some e.refusal (one_end t.listing u))
-one_listed text (Err e) (Err f) t u = ap Err (refused_once e f (one_end t.listing u.listing) (t.line ∙ ap (λ (T : Table). length T + 1) (one_table t.listing u.listing) ∙ sym u.line))
+one_listed text (Ok r) (Err f) t u = absurd (number_some f.refused.refusal (sym (one_end t u.listing)))
+one_listed text (Err e) (Ok s) t u = absurd (number_some e.refused.refusal (one_end t.listing u))
+one_listed text (Err e) (Err f) t u =
+    let T = one_table t.listing u.listing in
+    let r = refused_once e.refused f.refused (one_end t.listing u.listing) (t.line ∙ ap (λ (T : Table). length T + 1) T ∙ sym u.line) in
+    ap Err (ap₂ (λ (r : Refused) (l : Listed). record { refused = r; read = l }) r (ap₂ (λ (T : Table) (i : ℕ). record { table = T; at = i }) T (same_end t.listing u.listing).1))
 
 -- THE CLAIMS: what refuses them has one number
 claims_number : Table → List Sided → Next → ℕ
@@ -142,8 +147,15 @@ module _ {text : List ℕ} {T : Table} {begun : ℕ} where
       → (records r.claims ≡ records s.claims) × (r.reached.lines ≡ s.reached.lines) × (r.reached.at ≡ s.reached.at) × (r.section ≡ s.section)
   one_heading c d = let q = one_lead c.leads d.leads in (c.shown ∙ ap (map record_of) q.0 ∙ sym d.shown, q.1, q.2, ok_once q.3)
 
-  pub one_refused : {e f : Refused} → ClaimsRefused text T begun e → ClaimsRefused text T begun f → e ≡ f
-  one_refused {e} {f} c d = let q = one_lead c.leads d.leads in refused_once e f (err_once q.3) (c.line ∙ ap (λ (n : ℕ). n + 1) q.1 ∙ sym d.line)
+  -- and so are two refusals, with what was read before them
+  pub one_refused : {e f : Stopped Read} → ClaimsRefused text T begun e → ClaimsRefused text T begun f
+      → (e.refused ≡ f.refused) × (records e.read.claims ≡ records f.read.claims) × (e.read.reached ≡ f.read.reached)
+  one_refused {e} {f} c d =
+      let q = one_lead c.leads d.leads in (
+        refused_once e.refused f.refused (err_once q.3) (c.line ∙ ap (λ (n : ℕ). n + 1) q.1 ∙ sym d.line),
+        c.shown ∙ ap (map record_of) q.0 ∙ sym d.shown,
+        ap₂ (λ (i n : ℕ). record { at = i; lines = n }) q.2 q.1,
+      )
 
-  pub none_heard : {r : Heading} {e : Refused} → ClaimsHeard text T begun r → ClaimsRefused text T begun e → ⊥
+  pub none_heard : {r : Heading} {e : Stopped Read} → ClaimsHeard text T begun r → ClaimsRefused text T begun e → ⊥
   none_heard c d = let q = (one_lead c.leads d.leads).3 in let z : ◌≡◌ {A = ℕ} 0 1 = cc in omega arith

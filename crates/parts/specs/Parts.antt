@@ -16,9 +16,10 @@ use Rattle.alc.specs.Entries.{Layered}
 use Rattle.alc.specs.Dossier as Dossier
 use Rattle.alc.specs.Dossier.{sided, saying}
 use Rattle.alc.specs.Shown.{kind_at, Shows, number_of}
-use Rattle.alc.specs.declared.Refused.{Refused}
 use Rattle.alc.specs.Verdict.{State, table, claims, steps, start, place, begin, rows, after}
 use Rattle.parts.specs.declared.Listed.{Listed}
+use Rattle.parts.specs.declared.Stopped.{Stopped}
+use Rattle.parts.specs.declared.Claims.{Claims as Read}
 use Rattle.parts.specs.declared.Heading.{Heading}
 use Rattle.parts.specs.declared.Section.{Section}
 use Rattle.parts.specs.declared.Section.TheVariants.{Proof, Model}
@@ -60,17 +61,15 @@ pub record Listing (text : List ℕ) (T : Table) (at k : ℕ) : Type 0 where
   pub read : Through text 0 0 begin (length T) at (in_table T)
   pub ends : TableEnd T (read_at text at at_table) k
 
--- the line behind a table is refused, with its number and line
-pub record TableRefused (text : List ℕ) (e : Refused) : Type 0 where
-  pub table : Table
-  pub at : ℕ
-  pub few : length table ≤ 256
-  pub layered : Layered table
-  pub listing : Listing text table at (number_of e.refusal)
-  pub line : e.line ≡ length table + 1
+-- the line behind the table that was read is refused, with its number and line
+pub record TableRefused (text : List ℕ) (e : Stopped Listed) : Type 0 where
+  pub few : length e.read.table ≤ 256
+  pub layered : Layered e.read.table
+  pub listing : Listing text e.read.table e.read.at (number_of e.refused.refusal)
+  pub line : e.refused.line ≡ length e.read.table + 1
 
 -- what the reading of the table comes to: the table, with what ends it, or a refusal
-abbrev pub TableRead : List ℕ → Result Listed Refused → Type 0
+abbrev pub TableRead : List ℕ → Result Listed (Stopped Listed) → Type 0
 TableRead text (Ok r) = Listing text r.table r.at 0
 TableRead text (Err e) = TableRefused text e
 
@@ -123,17 +122,16 @@ pub record ClaimsHeard (text : List ℕ) (T : Table) (begun : ℕ) (r : Heading)
   pub ranges : All (λ s. every (in_range (length T) 0) (claim_fields (Claims.claim s)) ≡ true) cs
   pub leads : ClaimsLead text T begun cs r.reached.lines r.reached.at (Ok r.section)
 
--- the line behind some claims is refused, with its number and line
-pub record ClaimsRefused (text : List ℕ) (T : Table) (begun : ℕ) (e : Refused) : Type 0 where
+-- the line behind the claims that were read is refused, with its number and line
+pub record ClaimsRefused (text : List ℕ) (T : Table) (begun : ℕ) (e : Stopped Read) : Type 0 where
   pub cs : List Sided
-  pub lines : ℕ
-  pub at : ℕ
-  pub few : length cs ≤ 64
+  pub shown : Shows e.read.claims cs
+  pub few : e.read.claims.count ≤ 64
   pub ranges : All (λ s. every (in_range (length T) 0) (claim_fields (Claims.claim s)) ≡ true) cs
-  pub leads : ClaimsLead text T begun cs lines at (Err (number_of e.refusal))
-  pub line : e.line ≡ lines + 1
+  pub leads : ClaimsLead text T begun cs e.read.reached.lines e.read.reached.at (Err (number_of e.refused.refusal))
+  pub line : e.refused.line ≡ e.read.reached.lines + 1
 
 -- what the reading of the claims comes to, from a position on behind a table T: the claims, with what ends them, or a refusal
-abbrev pub ClaimsRead : List ℕ → Table → ℕ → Result Heading Refused → Type 0
+abbrev pub ClaimsRead : List ℕ → Table → ℕ → Result Heading (Stopped Read) → Type 0
 ClaimsRead text T begun (Ok r) = ClaimsHeard text T begun r
 ClaimsRead text T begun (Err e) = ClaimsRefused text T begun e

@@ -9,7 +9,7 @@ ghost use Rattle.alc.specs.Ranges.{in_range};
 ghost use Rattle.alc.specs.Dossier.{saying};
 ghost use Rattle.parts.specs.Fields.{said_fields, field_by, fields_by};
 
-use alc::{Goal, Table};
+use alc::{Goal, Refusal, Refused, Table};
 use lines::Line;
 
 // What a number of a line is a number of.
@@ -129,10 +129,29 @@ pub fn ranged(l: Line, n: usize, m: u8) -> bool
 }
 
 // What reading the table came to: the table, and the position of the line behind it.
-#[derive(Drop)]
+#[derive(Clone, Copy)]
 pub struct Listed {
     pub table: Table,
     pub at: usize,
+}
+
+// A line is refused, with what was read before it.
+#[derive(Clone, Copy)]
+pub struct Stopped<T> {
+    pub refused: Refused,
+    pub read: T,
+}
+
+impl<T> Stopped<T> {
+    // The line of a number is refused, behind what was read.
+    pub fn new(refusal: Refusal, line: usize, read: T) -> Self
+        ensures { result ≡ record { refused = record { refusal = refusal; line = line }; read = read } }
+    {
+        Stopped {
+            refused: Refused { refusal, line },
+            read,
+        }
+    }
 }
 
 // What ends the claims.
@@ -147,6 +166,13 @@ pub enum Section {
 pub struct Reached {
     pub at: usize,
     pub lines: usize,
+}
+
+// The claims of a dossier, and how far the text is read with them.
+#[derive(Clone, Copy)]
+pub struct Claims {
+    pub claims: Goal,
+    pub reached: Reached,
 }
 
 // What reading the claims came to: the claims, what ended them, and how far the text is read behind it.

@@ -36,6 +36,6 @@ pub fn line_of(answer: Answer) -> Line
     match answer {
         Answer::Proved(lines) => in_columns("proved", 0, lines),
         Answer::Refuted(lines) => in_columns("refuted", 0, lines),
-        Answer::Refused(r) => in_columns("refused", r.refusal.number(), r.line),
+        Answer::Refused(number, line) => in_columns("refused", number, line),
     }
 }

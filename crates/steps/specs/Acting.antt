@@ -7,7 +7,7 @@ use Rattle.lines.specs.declared.Next.{Next}
 use Rattle.lines.specs.declared.Next.TheVariants.{Found, Bad, End}
 use Rattle.alc.specs.Table.{Table}
 use Rattle.alc.specs.Claims.{Sided, Goal}
-use Rattle.alc.specs.Shown.{Shows}
+use Rattle.alc.specs.Shown.{Shows, number_of}
 use Rattle.alc.specs.Verdict.{Verdict, judge}
 use Rattle.alc.specs.declared.Goal.{Goal as Records}
 use Rattle.alc.specs.declared.Answer.{Answer}
@@ -31,7 +31,7 @@ from T cs text s gs = judge s.reached.lines (in_steps T cs s.steps gs) (lines_of
 
 -- a refusal at a line
 abbrev pub refused_at : Refusal → ℕ → Answer
-refused_at k n = Refused (record { refusal = k; line = n })
+refused_at k n = Refused (number_of k) n
 
 -- what the next line at the state s is, by what stands at its position: a bad line; the end, with a goal open or with none; a step past the 1,024th,
 -- or with no goal open; or a step that turns on the current goal, and passes or is refused

@@ -9,7 +9,7 @@ ghost use Rattle.states.specs.Standing.{Ready};
 ghost use Rattle.steps.specs.Turning.{TurnAt};
 ghost use Rattle.steps.specs.Acting.{refused_at, StepAt};
 
-use alc::{Answer, Refusal, Refused, Table};
+use alc::{Answer, Refusal, Table};
 use goals::{Step, Turn};
 use lines::{IN_STEPS, Line, Next};
 use states::State;
@@ -52,7 +52,7 @@ fn turn_at(table: &Table, l: Line, s: &State) -> Result<Turn, Refusal>
 fn refused(refusal: Refusal, line: usize) -> Answer
     ensures { result ≡ refused_at refusal line }
 {
-    Answer::Refused(Refused { refusal, line })
+    Answer::Refused(refusal.number(), line)
 }
 
 // The next line at the state s: a step that passes, or the answer, where the derivation ends.

@@ -3,39 +3,21 @@
 
 ghost use Rattle.std.specs.Prelude.{◌≡◌, ◌<◌, ◌%◌, IfOk};
 ghost use Rattle.alc.specs.Rows.{refusal};
-ghost use Rattle.alc.specs.Entries.{kind_of, shown};
-ghost use Rattle.alc.specs.Shown.{kind_at, row_number};
+ghost use Rattle.alc.specs.Entries.{shown};
+ghost use Rattle.alc.specs.Shown.{row_number};
 ghost use Rattle.lines.specs.Walk.{claims_from};
 ghost use Rattle.parts.specs.Parts.{entry_in, entry_rows, TableRead};
 
-use alc::{Entry, Kind, Refusal, Refused, Table};
+use alc::{Entry, Kind, Refusal, Table};
 use lines::{IN_TABLE, Line, Next};
-use parts::{Listed, ranged};
+use parts::{Listed, Stopped, ranged};
 
-// The kind of a line of the table, by its word. No `TryFrom`: no other word comes here.
-fn kind(word: u8) -> Kind
-    requires { word < claims_from }
-    ensures { kind_of result ≡ kind_at word }
-{
-    match word {
-        lines::TOP => Kind::Top,
-        lines::BOT => Kind::Bot,
-        lines::ATOM => Kind::Atom,
-        lines::NOT => Kind::Not,
-        lines::AND => Kind::And,
-        lines::OR => Kind::Or,
-        lines::SOME => Kind::Some,
-        _ => Kind::All,
-    }
-}
-
-// The line of the table that a line of the text is. No `TryFrom`: a line of another word never comes here, so it could not fail.
+// The line of the table that a line of the text is.
 fn made_entry(l: Line) -> Entry
-    requires { l.word < claims_from }
     ensures { shown result ≡ entry_in l }
 {
     Entry {
-        kind: kind(l.word),
+        kind: Kind::from(l.word),
         x: (l.n0 % 256) as u8,
         y: (l.n1 % 256) as u8,
     }
@@ -62,7 +44,7 @@ fn next_entry(table: &Table, l: Line) -> Result<Entry, Refusal>
 }
 
 // Reads the table, up to the first line that is not of it.
-pub fn read_table(text: &[u8]) -> Result<Listed, Refused>
+pub fn read_table(text: &[u8]) -> Result<Listed, Stopped<Listed>>
     ensures { TableRead text.now result }
 {
     let mut table = Table::new();
@@ -74,19 +56,14 @@ pub fn read_table(text: &[u8]) -> Result<Listed, Refused>
                 if l.word >= lines::IS {
                     return Ok(Listed { table, at });
                 }
-                let entry = next_entry(&table, l).map_err(|refusal| Refused { refusal, line })?;
-                table.push(entry);
+                match next_entry(&table, l) {
+                    Ok(entry) => table.push(entry),
+                    Err(refusal) => return Err(Stopped::new(refusal, line, Listed { table, at })),
+                }
                 at = next;
             }
-            Next::Bad => {
-                return Err(Refused {
-                    refusal: Refusal::Malformed,
-                    line,
-                });
-            }
-            Next::End => {
-                return Ok(Listed { table, at });
-            }
+            Next::Bad => return Err(Stopped::new(Refusal::Malformed, line, Listed { table, at })),
+            Next::End => return Ok(Listed { table, at }),
         }
     }
 }

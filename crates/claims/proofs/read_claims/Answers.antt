@@ -2,7 +2,7 @@
 -- many lines. The measure is what is left of the text. Assumes nothing.
 use Prim.Native.Nat.{ℕ, ◌+◌, ◌≤◌, ◌<◌}
 use mathlib.Core.List.{List}
-use mathlib.Core.Path.{◌≡◌, refl, sym, ap, subst, ◌∙◌}
+use mathlib.Core.Path.{◌≡◌, refl, sym, subst, ◌∙◌}
 use native.Mathlib.Omega.{arith}
 use lib.ListN.{length}
 use Rattle.lines.specs.Text.{at_claims}
@@ -17,13 +17,14 @@ use Rattle.goals.proofs.RecordLaws.{with_more, with_count}
 use Rattle.std.specs.Prelude.{Ok, Err}
 use Rattle.alc.specs.Rows.{refusal}
 use Rattle.alc.specs.Shown.{number_of, row_number}
-use Rattle.alc.proofs.Refusals.{number_some, handed_on, passing, made_of}
+use Rattle.alc.proofs.Refusals.{number_some, passed}
 use Rattle.alc.specs.declared.refusal.Refusal.{Refusal}
 use Rattle.alc.specs.declared.refusal.Refusal.TheVariants.{Malformed, Unfinished}
 use Rattle.parts.specs.declared.Section.{Section}
+use Rattle.parts.specs.declared.Stopped.{Stopped}
+use Rattle.parts.specs.declared.Claims.{Claims}
 use Rattle.parts.specs.Parts.{ClaimsEnd, ClaimsLead, wrong, over, ClaimsRead, claim_rows}
 use Rattle.claims.proofs.ClaimWalk.{Walk, walk_begin, walk_more, stops, fails, turns, room, stands_among}
-use Rattle.std.proofs.Common.{rules}
 use Rattle.claims.proofs.read_claims.Goals as goal
 
 -- the line that was found
@@ -33,10 +34,12 @@ word {l = l} f = stands_among l f.allowed
 -- what the walk came to, where it is refused
 module _ (text : List ℕ) (start entries at n : ℕ) (g : Records) (low : g.count ≤ 64) (v : (T : Table) → length T ≡ entries → Walk text T start g at n) where
   stopped : (k : Refusal) (x : Next) → read_at text at at_claims ≡ x → ((T : Table) (q : length T ≡ entries) → ClaimsEnd T (v T q).cs x (number_of k))
-      → (T : Table) → length T ≡ entries → ClaimsRead text T start (Err (record { refusal = k; line = n + 1 }))
-  stopped k x e d T q =
+      → (s : Stopped Claims) → s ≡ record { refused = record { refusal = k; line = n + 1 }; read = record { claims = g; reached = record { at = at; lines = n } } }
+      → (T : Table) → length T ≡ entries → ClaimsRead text T start (Err s)
+  stopped k x e d s m T q =
       let w = v T q in
-      record { cs = w.cs; lines = n; at = at; few = omega (arith, low, w.count); ranges = w.ranges; leads = stops _ T _ _ _ _ w x (number_of k) e (d T q); line = refl }
+      subst (λ f. ClaimsRead text T start (Err f)) (sym m)
+      (record { cs = w.cs; shown = w.shown; few = low; ranges = w.ranges; leads = stops _ T _ _ _ _ w x (number_of k) e (d T q); line = refl })
 
 pub loop-l-init : goal.loop-l-init
 loop-l-init c =
@@ -58,13 +61,13 @@ returns-then-l-ge-PROOF c = λ T q.
 pub next_claim-requires : goal.next_claim-requires
 next_claim-requires c = ((word (when_found _ _ _ _ _ (sym c.read.ensures ∙ c.in-Found.is))).0, c.if-l-ge-PROOF.false)
 
-pub returns-in_err-claim-in-Found : goal.returns-in_err-claim-in-Found
-returns-in_err-claim-in-Found c = λ T q.
-    let k = made_of _ c.next_claim.result _ c.map_err.ensures.cases (λ e. record { refusal = e; line = c.loop-l.n + 1 }) _ c.in_err-claim-in-Found.was (λ e p. search rules) in
+pub returns-in-Err : goal.returns-in-Err
+returns-in-Err c =
     let r = sym c.read.ensures ∙ c.in-Found.is in
-    subst (ClaimsRead c.args.text.now T c.args.start) (sym (handed_on c.from_residual.result c.in_err-claim-in-Found.field-0.0 c.from_residual.ensures.1 ∙ ap Err k.2))
-    (stopped _ _ _ _ _ _ c.loop-l.invariant.2 c.loop-l.invariant.3 _ _ r
-    (λ T q. fails _ T _ _ _ _ (c.loop-l.invariant.3 T q) _ _ r c.if-l-ge-PROOF.false c.args.entries _ q (subst (λ z. row_number z ≡ refusal (claim_rows c.args.entries c.loop-l.claims.count c.in-Found.l)) k.1 c.next_claim.ensures.row) (number_some k.0)) T q)
+    stopped _ _ _ _ _ _ c.loop-l.invariant.2 c.loop-l.invariant.3 _ _ r
+    (λ T q. fails _ T _ _ _ _ (c.loop-l.invariant.3 T q) _ _ r c.if-l-ge-PROOF.false c.args.entries _ q
+    (subst (λ z. row_number z ≡ refusal (claim_rows c.args.entries c.loop-l.claims.count c.in-Found.l)) c.in-Err.is c.next_claim.ensures.row) (number_some c.in-Err.refusal))
+    _ c.stopped.ensures
 
 pub loop-l-smaller : goal.loop-l-smaller
 loop-l-smaller c = let f = when_found _ _ _ _ _ (sym c.read.ensures ∙ c.in-Found.is) in omega (arith, f.later, f.within)
@@ -80,14 +83,14 @@ loop-l-preserved c =
       with_count _ _ i.2 w.1,
       λ T q.
           let v = i.3 T q in
-          let z = (passing _ _ _ c.map_err.ensures.cases _ _ _ c.in_ok-claim-in-Found.was c.next_claim.ensures.row c.next_claim.ensures.claim).0 in
+          let z = (passed _ _ _ _ c.in-Ok.is c.next_claim.ensures.row c.next_claim.ensures.claim).0 in
           let less = room _ T _ _ _ _ v _ _ r c.if-l-ge-PROOF.false c.args.entries q c.requires.2 z in
-          walk_more _ T _ _ _ _ v _ _ r c.if-l-ge-PROOF.false c.args.entries q c.requires.2 z c.with-claims.result _ (passing _ _ _ c.map_err.ensures.cases _ _ _ c.in_ok-claim-in-Found.was c.next_claim.ensures.row c.next_claim.ensures.claim).1
+          walk_more _ T _ _ _ _ v _ _ r c.if-l-ge-PROOF.false c.args.entries q c.requires.2 z c.with-claims.result _ (passed _ _ _ _ c.in-Ok.is c.next_claim.ensures.row c.next_claim.ensures.claim).1
           (with_more c.loop-l.claims.count _ _ _ less w.0) (with_more c.loop-l.claims.count _ _ _ less w.1),
     )
 
 pub returns-in-Bad : goal.returns-in-Bad
-returns-in-Bad c = stopped _ _ _ _ _ _ c.loop-l.invariant.2 c.loop-l.invariant.3 Malformed Bad (sym c.read.ensures ∙ c.in-Bad.is) (λ T q. wrong)
+returns-in-Bad c = stopped _ _ _ _ _ _ c.loop-l.invariant.2 c.loop-l.invariant.3 Malformed Bad (sym c.read.ensures ∙ c.in-Bad.is) (λ T q. wrong) _ c.stopped-in-Bad.ensures
 
 pub returns-in-End : goal.returns-in-End
-returns-in-End c = stopped _ _ _ _ _ _ c.loop-l.invariant.2 c.loop-l.invariant.3 Unfinished End (sym c.read.ensures ∙ c.in-End.is) (λ T q. over)
+returns-in-End c = stopped _ _ _ _ _ _ c.loop-l.invariant.2 c.loop-l.invariant.3 Unfinished End (sym c.read.ensures ∙ c.in-End.is) (λ T q. over) _ c.stopped-in-End.ensures

@@ -1,8 +1,4 @@
 -- `report::line_of` meets its contract: each arm has the word of its verdict, byte for byte. Assumes nothing.
-use Prim.Native.Nat.{ℕ}
-use mathlib.Core.Path.{ap, ◌∙◌}
-use Rattle.lines.specs.Text.{bytes}
-use Rattle.report.specs.Printed.{columns}
 use Rattle.report.specs.Printed.{printed}
 use Rattle.report.proofs.line_of.Goals as goal
 
@@ -16,4 +12,4 @@ returns-in-Refuted c = rw c.in-Refuted.is c.in_columns-in-Refuted.ensures
 
 pub returns-in-Refused : goal.returns-in-Refused
 unfolding printed
-returns-in-Refused c = rw c.in-Refused.is (c.in_columns-in-Refused.ensures ∙ ap (λ (k : ℕ). columns (bytes "refused") k c.in-Refused.r.line) c.number.ensures)
+returns-in-Refused c = rw c.in-Refused.is c.in_columns-in-Refused.ensures

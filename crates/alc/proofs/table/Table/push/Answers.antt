@@ -1,23 +1,31 @@
 -- `Table::push` meets its contract: the line stands behind those that are shown, with its numbers in their ranges.
 -- Assumes nothing.
-use Rattle.std.proofs.Common.{◌∙◌, ap, sym, length, subst, ℕ, ◌≡◌, true, arith}
+use Rattle.std.proofs.Common.{◌<◌, ◌∙◌, arith}
 use Rattle.std.proofs.lemmas.List.{length-set}
-use Rattle.alc.specs.Lists.{every}
-use Rattle.alc.specs.Ranges.{in_range}
-use Rattle.alc.specs.Table.{entry_fields}
-use Rattle.alc.specs.Entries.{shown}
-use Rattle.alc.proofs.Stored.{shown_length, layered_stored}
+use Rattle.alc.specs.Entries.{past}
+use Rattle.alc.proofs.Stored.{count_is, shown_more, layered_stored, rest_more}
 use Rattle.alc.proofs.table.Table.push.Goals as goal
 
 pub invariant_of-self : goal.invariant_of-self
 invariant_of-self c =
-    let i = c.self.inside in
+    let t = c.self.inside in
     let e = c.args.e in
     let inv = c.self.invariant in
-    let long = shown_length i.entries i.count (omega (arith, inv.0, inv.1)) in
-    let count = ap length (sym c.self.view_is) ∙ long in (
-      omega (arith, count, c.requires.room),
-      length-set i.entries i.count e ∙ inv.1,
-      layered_stored i.entries i.count e (omega (arith, inv.1, count, c.requires.room)) inv.2
-          (subst (λ (n : ℕ). every (in_range n 0) (entry_fields (shown e)) ≡ true) count c.requires.ranged),
+    let n = count_is t.kinds t.firsts t.seconds t.count _ inv.0 inv.1 inv.2 inv.3 c.self.view_is in
+    let h : t.count < 256 = omega (arith, c.requires.room, n) in (
+      omega (arith, h),
+      length-set t.kinds t.count e.kind ∙ inv.1,
+      length-set t.firsts t.count e.x ∙ inv.2,
+      length-set t.seconds t.count e.y ∙ inv.3,
+      layered_stored t.kinds t.firsts t.seconds t.count _ h inv.1 inv.2 inv.3 c.self.view_is e inv.4 c.requires.ranged,
+      rest_more past.kind t.kinds t.count e.kind h inv.5,
+      rest_more past.x t.firsts t.count e.x h inv.6,
+      rest_more past.y t.seconds t.count e.y h inv.7,
     )
+
+pub returns : goal.returns
+returns c =
+    let t = c.self.inside in
+    let inv = c.self.invariant in
+    let n = count_is t.kinds t.firsts t.seconds t.count _ inv.0 inv.1 inv.2 inv.3 c.self.view_is in
+    shown_more t.kinds t.firsts t.seconds t.count _ (omega (arith, c.requires.room, n)) inv.1 inv.2 inv.3 c.self.view_is c.args.e
