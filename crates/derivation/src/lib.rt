@@ -72,20 +72,30 @@ fn step(room: &mut [Claim], text: &[u8], table: &Table, s: &mut State) -> Result
     }
 }
 
-// Judges the lines from the state s on as steps. The answer is the verdict from there on, and every record of the room is blank afterwards.
+// The lines from the state s on as steps: the answer is the verdict from there on. Not part of its caller, so that nothing else is judged with its stack;
+// the blanking is, so that it goes where the caller's own room ends with the call.
 #[inline(never)]
+fn concluded(room: &mut [Claim], text: &[u8], table: &Table, s: State) -> Answer
+    requires room { 1088 ≤ length room.old }
+    requires ready { Ready text.now s }
+    ensures { (cs : List Sided) (v : Verdict) → Stands table.now cs text.now v room.old s → answered result ≡ v }
+{
+    let mut s = s;
+    loop {
+        if let Err(answer) = step(room, text, table, &mut s) {
+            break answer;
+        }
+    }
+}
+
+// Judges the lines from the state s on as steps. The answer is the verdict from there on, and every record of the room is blank afterwards.
 pub fn judge_steps(room: &mut [Claim], text: &[u8], table: &Table, s: State) -> Answer
     requires room { 1088 ≤ length room.old }
     requires ready { Ready text.now s }
     ensures answer { (cs : List Sided) (v : Verdict) → Stands table.now cs text.now v room.old s → answered result ≡ v }
     ensures room { room.new ≡ replicate (length room.old) blank }
 {
-    let mut s = s;
-    let answer = loop {
-        if let Err(answer) = step(room, text, table, &mut s) {
-            break answer;
-        }
-    };
+    let answer = concluded(room, text, table, s);
     room::blank_all(room);
     answer
 }

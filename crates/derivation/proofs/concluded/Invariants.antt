@@ -2,7 +2,7 @@
 use Prim.Native.Nat.{◌-◌}
 use lib.ListN.{length}
 use Rattle.derivation.proofs.Waits.{Holds}
-use Rattle.derivation.proofs.judge_steps.Given as goal
+use Rattle.derivation.proofs.concluded.Given as goal
 
 abbrev pub invariant-loop-answer : goal.invariant-loop-answer
 invariant-loop-answer l = Holds l.text l.table l.initial.room l.fn.s l.room l.s
