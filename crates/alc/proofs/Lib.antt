@@ -17,6 +17,7 @@ pub mod Runs
 pub mod Heard
 pub mod Ending
 pub mod Verdicts
+pub mod Listed
 -- What the verdicts mean; the known dossiers.
 pub mod Meant
 pub mod NotNew

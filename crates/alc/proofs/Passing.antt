@@ -46,10 +46,11 @@ first-All : (P : ℕ → Type 0) {k : ℕ} {rs : List Row} → First k rs → Al
 first-All P here h = h.0
 first-All P (later f) h = first-All P f h.1
 
+pub line_All : (P : ℕ → Type 0) → All P order → (S : State) (s : Said) (k : ℕ) → First k (rows S s) → P k
+line_All P h S s k f = first-All P f (within-All P (map (λ r. r.number) (rows S s)) order (in_order S s) h)
+
 pub line_number : (S : State) (s : Said) (k : ℕ) → First k (rows S s) → elem k order ≡ true
-line_number S s k f =
-    first-All (λ n. elem n order ≡ true) f
-    (within-All (λ n. elem n order ≡ true) (map (λ r. r.number) (rows S s)) order (in_order S s) (every-All (λ n. elem n order) order refl))
+line_number = line_All (λ n. elem n order ≡ true) (every-All (λ n. elem n order) order refl)
 
 -- no row has number 0
 numbered : (S : State) (s : Said) → All (λ n. 0 < n) (map (λ r. r.number) (rows S s))

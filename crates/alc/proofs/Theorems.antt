@@ -23,12 +23,15 @@ use Rattle.alc.specs.Derivation.{Derives, Works}
 use Rattle.alc.specs.Reading.{InRange, GoodTable, ReadsProof, ReadsModel, Evidence, Reads, ReadsUpTo, line_of}
 use Rattle.alc.specs.Accepts.{Proves, Against, Falsifies, Fails}
 use Rattle.alc.specs.Refusal.{order, within, First, Refuses}
+use Rattle.alc.specs.Shown.{number_of}
+use Rattle.alc.specs.declared.refusal.Refusal.{Refusal}
 use Rattle.alc.proofs.Known
 use Rattle.alc.proofs.Slides
 use Rattle.alc.proofs.Derive
 use Rattle.alc.proofs.Passing
 use Rattle.alc.proofs.Places
 use Rattle.alc.proofs.Verdicts
+use Rattle.alc.proofs.Listed
 use Rattle.alc.proofs.Numbered
 use Rattle.alc.proofs.Different
 use Rattle.alc.proofs.Meant
@@ -62,6 +65,10 @@ rows_in_order = Passing.in_order
 -- so a line is refused with one of their numbers: 14 and 1 come before the lines, 12 and 13 at the end only
 pub line_number : (S : State) (s : Said) (k : ℕ) → First k (rows S s) → elem k order ≡ true
 line_number = Passing.line_number
+
+-- each refusal has a number of the list, so the number of an answer, a `u8` by its type, is that of a `Refusal`
+pub refused_listed : (room : ℕ) (text : List ℕ) (k n : ℕ) → verdict room text ≡ refused k n → (r : Refusal) × (number_of r ≡ k)
+refused_listed = Listed.refused_listed
 
 -- the table of what the words say and the reading part's table of words have the same words in the same order
 pub words_as_said : (s x y z : ℕ) → map (λ r. r.word) (lexicon s x y z) ≡ map (λ r. r.word) words
