@@ -73,6 +73,10 @@ module _ {A B : Type 0} (P : Refusal → B → Type 0) (r : Result A Refusal) (s
       go (Ok y) n = ap Ok (ok (sym n ∙ q))
       go (Err e) n = absurd (subst (λ z. IsErrAnd z (P e)) q n)
 
+  -- it passes every row, and what is said of a value holds of it
+  pub passing : (Q : A → Type 0) (x : A) (k : ℕ) → s ≡ Ok x → row_number r ≡ k → IfOk r Q → (0 ≡ k) × Q x
+  passing Q x k q n h = passed Q r x k (value x q) n h
+
   -- an error that `map_err` hands on was made of a refusal
   pub made_of : (g : Refusal → B) (f : B) → s ≡ Err f → ((e : Refusal) → P e f → f ≡ g e) → (e : Refusal) × (r ≡ Err e) × (f ≡ g e)
   made_of g f q h = go r m

@@ -7,7 +7,7 @@ use Rattle.std.proofs.Common.{length-append, get_or, ltb, false}
 use mathlib.Core.Bool.{or-true, or-false}
 use borrow.Author.Tests.{lt-ltb}
 use Rattle.alc.proofs.ListFacts.{any_more}
-use Rattle.std.proofs.lemmas.List.{nil_from_length, map-append, take_more, take_more_set, take_all, get_or-take, get_or_append_left, drop-replicate, drop-set-lt, drop-drop}
+use Rattle.std.proofs.lemmas.List.{nil_from_length, length-map, length-take-le, map-append, take_more, take_more_set, take_all, get_or-take, get_or_append_left, drop-replicate, drop-set-lt, drop-drop}
 use Rattle.std.proofs.Math.Seq.{get_or-append_seam}
 use Rattle.std.proofs.Math.ListN.{get_or-map}
 use Rattle.std.specs.List.{list_any}
@@ -23,6 +23,14 @@ use Rattle.alc.specs.contracts.table.Kind.{the_type}
 use denote.Enum.Bare.{sameb}
 use mathlib.Core.Path.{ap₂}
 use Rattle.std.proofs.Math.Bool.{decide}
+
+-- so many lines are shown
+pub shown_length : (es : List Stored) (n : ℕ) → n ≤ length es → length (map shown (take n es)) ≡ n
+shown_length es n h = length-map (take n es) shown ∙ length-take-le n es h
+
+-- a line more is stored
+pub shown_more : (es : List Stored) (n : ℕ) (e : Stored) → n < length es → map shown (take (n + 1) (set es n e)) ≡ map shown (take n es) ++ (shown e ∷ [])
+shown_more es n e h = ap (map shown) (take_more_set es n e h) ∙ map-append shown (take n es) (e ∷ [])
 
 -- behind a line more the rest of a column is shorter by one
 pub rest_more : {X : Type 0} (z : X) (xs : List X) (n : ℕ) (x : X) → n < 256 → drop n xs ≡ replicate (256 - n) z → drop (n + 1) (set xs n x) ≡ replicate (256 - (n + 1)) z
@@ -78,22 +86,27 @@ layered_more T e h r = λ i b. at i b (ℕ_discrete i (length T))
         let m : i < length T = omega (arith, b, q, length-append T (e ∷ [])) in
         rw (get_or_append_left T (e ∷ []) (entry_of Definition.Kind.top 0 0) i m) (h i m)
 
+-- the same of the lines stored
+pub layered_stored : (es : List Stored) (n : ℕ) (e : Stored) → n < length es → Layered (map shown (take n es))
+    → every (in_range n 0) (entry_fields (shown e)) ≡ true → Layered (map shown (take (n + 1) (set es n e)))
+layered_stored es n e h l r = rw (shown_more es n e h) (layered_more _ _ l (rw (shown_length es n (omega (arith, h))) r))
+
+-- and of those that three columns make
 module _ (ks : List Kind) (xs ys : List ℕ) (n : ℕ) (T : Table) (h : n < 256) (p : length ks ≡ 256) (q : length xs ≡ 256) (r : length ys ≡ 256) (v : map shown (take n (columns ks xs ys)) ≡ T) (e : Stored) where
   long : n < length (columns ks xs ys)
   long = omega (arith, h, p, columns_length ks xs ys (q ∙ sym p) (r ∙ sym p))
 
-  -- a line more is stored
-  pub shown_more : map shown (take (n + 1) (columns (set ks n e.kind) (set xs n e.x) (set ys n e.y))) ≡ T ++ (shown e ∷ [])
-  shown_more =
+  pub columns_more : map shown (take (n + 1) (columns (set ks n e.kind) (set xs n e.x) (set ys n e.y))) ≡ T ++ (shown e ∷ [])
+  columns_more =
       ap (λ es. map shown (take (n + 1) es)) (columns_set ks xs ys n e.kind e.x e.y)
-      ∙ ap (map shown) (take_more_set (columns ks xs ys) n e long)
-      ∙ map-append shown (take n (columns ks xs ys)) (e ∷ [])
+      ∙ shown_more (columns ks xs ys) n e long
       ∙ ap (λ l. l ++ (shown e ∷ [])) v
 
-  -- and the table is layered still
-  pub layered_stored : Layered (map shown (take n (columns ks xs ys))) → every (in_range (length T) 0) (entry_fields (shown e)) ≡ true
+  pub columns_layered : Layered (map shown (take n (columns ks xs ys))) → every (in_range (length T) 0) (entry_fields (shown e)) ≡ true
       → Layered (map shown (take (n + 1) (columns (set ks n e.kind) (set xs n e.x) (set ys n e.y))))
-  layered_stored l w = subst Layered (sym shown_more) (layered_more T (shown e) (subst Layered v l) w)
+  columns_layered l w =
+      subst (λ es. Layered (map shown (take (n + 1) es))) (sym (columns_set ks xs ys n e.kind e.x e.y))
+      (layered_stored (columns ks xs ys) n e long l (rw (count_is ks xs ys n T (omega (arith, h)) p q r v) at w))
 
 -- two kinds are the same exactly if those that they are are
 kind_same : (k l : Kind) → sameb the_type l k ≡ decide (Definition.Kind-discrete (kind_of k) (kind_of l))
