@@ -13,7 +13,7 @@ use Rattle.alc.specs.Meaning.{World}
 use Rattle.alc.specs.Model.{Fact, Fact-discrete, places, has, edge, is_said, places_of, places_in, repeats, interp_of}
 use Rattle.alc.proofs.Logic.{both_true}
 use Rattle.alc.proofs.ListFacts.{any_more}
-use Rattle.models.specs.Arrays.{seats_of}
+use Rattle.models.specs.Arrays.{seats_of, Inside}
 use Rattle.models.specs.Shown.{with_atom, with_edge, PlaceSet, AtomSet, EdgeSet}
 use Rattle.models.specs.declared.Model.{Model}
 use Rattle.models.specs.Told.{Tells}
@@ -84,6 +84,17 @@ module _ (n : ℕ) (fs : List Fact) where
       (fun_ext (λ B. fun_ext (λ f. sym (said_still (edge r d e) (has B f) (λ (p : has B f ≡ edge r d e). cc)))))
       (fun_ext (λ s. fun_ext (λ f. fun_ext (λ g. sym (said_more (edge r d e) (edge s f g) (eqb r s && (eqb d f && eqb e g)) (same_edge r d e s f g))))))
 
+-- a model whose places are each one of n elements has such places behind each line
+module _ (n : ℕ) (m new : Model) (r : Bool) (h : Inside n m.places) where
+  pub place_inside : (a d : ℕ) → d < n → PlaceSet m new a d r → Inside n new.places
+  place_inside a d low s b = ap (every (λ e. ltb e n)) (s.seats b) ∙ inside_put n d (r && eqb b a) (seats_of m.places b) low (h b)
+
+  pub atom_inside : (A d : ℕ) → AtomSet m new A d r → Inside n new.places
+  atom_inside A d s b = ap (every (λ e. ltb e n)) (s.seats b) ∙ h b
+
+  pub edge_inside : (q d e : ℕ) → EdgeSet m new q d e r → Inside n new.places
+  edge_inside q d e s b = ap (every (λ f. ltb f n)) (s.seats b) ∙ h b
+
 module _ (n : ℕ) (fs : List Fact) (m : Model) (t : Tells n fs m) where
   module _ (new : Model) (r : Bool) where
     -- `has A d`: the answer says whether it repeats nothing, and the model tells it besides
@@ -94,7 +105,7 @@ module _ (n : ℕ) (fs : List Fact) (m : Model) (t : Tells n fs m) where
     atom_told A d s = record {
       world = s.world ∙ ap (λ (W : World). with_atom W A d) t.world ∙ world_atom n fs A d;
       seats = λ a. s.seats a ∙ t.seats a ∙ sym (places_more fs (has A d) a ∙ append-nil (places_in fs a));
-      inside = λ a. ap (every (λ e. ltb e n)) (s.seats a) ∙ t.inside a;
+      inside = atom_inside n m new r t.inside A d s;
     }
 
     -- `edge r d e`, likewise
@@ -105,7 +116,7 @@ module _ (n : ℕ) (fs : List Fact) (m : Model) (t : Tells n fs m) where
     edge_told q d e s = record {
       world = s.world ∙ ap (λ (W : World). with_edge W q d e) t.world ∙ world_edge n fs q d e;
       seats = λ a. s.seats a ∙ t.seats a ∙ sym (places_more fs (edge q d e) a ∙ append-nil (places_in fs a));
-      inside = λ a. ap (every (λ f. ltb f n)) (s.seats a) ∙ t.inside a;
+      inside = edge_inside n m new r t.inside q d e s;
     }
 
     -- `name a d`, likewise where the name was free
@@ -117,7 +128,7 @@ module _ (n : ℕ) (fs : List Fact) (m : Model) (t : Tells n fs m) where
       world = s.world ∙ t.world ∙ world_place n fs a d;
       seats = λ b.
           s.seats b ∙ ap (λ (q : Bool). cond (q && eqb b a) (d ∷ []) (seats_of m.places b)) free ∙ put b (ℕ_discrete b a) ∙ sym (places_more fs (places a d) b);
-      inside = λ b. ap (every (λ e. ltb e n)) (s.seats b) ∙ inside_put n d (r && eqb b a) (seats_of m.places b) low (t.inside b);
+      inside = place_inside n m new r t.inside a d low s;
     }
       where
         empty : (l : List ℕ) → not (not (is_empty l)) ≡ true → l ≡ []

@@ -20,7 +20,7 @@ use Rattle.alc.specs.Meaning.{World}
 use Rattle.alc.specs.declared.Element.{Element}
 use Rattle.sets.specs.Bit.{bit}
 use Rattle.sets.proofs.BitLaws.{bit_zero}
-use Rattle.models.specs.Arrays.{atom_in, edge_in, seats, seats_of}
+use Rattle.models.specs.Arrays.{atom_in, edge_in, seats, seats_of, Inside}
 use Rattle.models.specs.Shown.{with_atom, with_edge}
 use Rattle.alc.proofs.ListFacts.{zeros}
 
@@ -107,3 +107,7 @@ module _ (l : List (Option Element)) (i : ℕ) (d : Element) (h : i < length l) 
       go : Dec (b ≡ i) → seats (get_or (set l i (Some d)) b None) ≡ cond (eqb b i) (d.0 ∷ []) (seats (get_or l b None))
       go (yes p) = rw (p, get_or-set_same l i (Some d) None h, eq-eqb i i refl)
       go (no p) = rw (get_or-set_other l i b (Some d) None p, ne_eqb b i p)
+
+  -- each place that was one of n elements still is
+  pub inside_at : (n : ℕ) → d.0 < n → Inside n l → Inside n (set l i (Some d))
+  inside_at n low old b = ap (every (λ e. ltb e n)) (seats_at b) ∙ inside_put n d.0 (eqb b i) (seats_of l b) low (old b)
