@@ -28,7 +28,7 @@ use Rattle.states.specs.declared.State.{State}
 use Rattle.steps.specs.Acting.{Current, from, StepAt}
 use Rattle.steps.specs.declared.Passed.{Passed}
 use Rattle.steps.proofs.StepWalk.{Passing, Led}
-use Rattle.derivation.specs.Waiting.{last_of, Waiting, Rest, Stands, closed_of, PutAside, Done, Stepped}
+use Rattle.derivation.specs.Waiting.{last_of, Waiting, Rest, Stands, closed_of, PutAside, Behind, Onward, Done, Stepped}
 
 -- the goals below place k wait on in a room that is the same below it
 stays : (l m : List Record) (counts counts' : List ℕ) (k : ℕ) → take (k * 64) m ≡ take (k * 64) l → ((j : ℕ) → j < k → get_or counts' j 0 ≡ get_or counts j 0)
@@ -69,10 +69,6 @@ below l counts x hs w = w.1
 
 -- a step that passes
 module _ (text : List ℕ) (l : List Record) (s : State) (big : 1088 ≤ length l) (v : Ready text s) (p : Passed) where
-  -- the line is that step
-  abbrev Step : Table → Type 0
-  Step T = StepAt T s (read_at text s.reached.at at_steps) (Ok p)
-
   -- the state behind it, with another goal, other counts and another count of open goals
   abbrev behind : Records → List ℕ → ℕ → State
   behind g counts n = state_of g counts n (s.steps + 1) (s.reached.lines + 1) p.at
@@ -82,7 +78,11 @@ module _ (text : List ℕ) (l : List Record) (s : State) (big : 1088 ≤ length 
   ready q g counts n small slots sizes few =
       (record { few = few; small = small; slots = slots; sizes = sizes; within = q.within; counted = omega (arith, v.counted, q.later) }, q.later)
 
-  module _ (T : Table) (k : Step T) (q : Passing T text s p) where
+  -- what `Stepped` says of what is behind it: another line can be read there, and the verdict stays
+  abbrev pub Goes_on : Table → List Record → State → Type 0
+  Goes_on T m r = Onward text s r (Ok tt) × ((cs : List Sided) (w : Verdict) → Stands T cs text w l s → Behind T cs text w m r (Ok tt))
+
+  module _ (T : Table) (q : Passing T text s p) where
     -- the derivation stands behind it, if it does so for each goal that was open and those that wait
     stands : (m : List Record) (r : State)
         → ((cs : List Sided) (w : Verdict) (x : Goal) (hs : List Goal) → length T ≤ 256 → s.open ≡ suc (length hs) → Waiting l s.counts hs → w ≡ from T cs text s (x ∷ hs)
@@ -96,8 +96,8 @@ module _ (text : List ℕ) (l : List Record) (s : State) (big : 1088 ≤ length 
 
     -- ONE PREMISE
     pub one_more : (g : Records) → length (added p.turn.leaves) ≡ 1 → records g ≡ premise_at 0 p.turn (records s.goal) → g.count ≤ 64
-        → Stepped text T l s l (behind g s.counts s.open) (Ok tt)
-    one_more g n sg small = record { does = record { passed = p; step = k; done = Done.one g n sg }; onward = ready q g s.counts s.open small v.slots v.sizes v.few; behind = stands l (behind g s.counts s.open) go }
+        → Goes_on T l (behind g s.counts s.open)
+    one_more g n sg small = (ready q g s.counts s.open small v.slots v.sizes v.few, stands l (behind g s.counts s.open) go)
       where
         go : (cs : List Sided) (w : Verdict) (x : Goal) (hs : List Goal) → length T ≤ 256 → s.open ≡ suc (length hs) → Waiting l s.counts hs → w ≡ from T cs text s (x ∷ hs)
             → Led T cs text s p x hs → Stands T cs text w l (behind g s.counts s.open)
@@ -111,8 +111,8 @@ module _ (text : List ℕ) (l : List Record) (s : State) (big : 1088 ≤ length 
             by (y ∷ (z ∷ (_ ∷ _))) r f = elim r [ ]
 
     -- NO PREMISE
-    pub none_more : length (added p.turn.leaves) ≡ 0 → Stepped text T l s l (closed_of l (behind s.goal s.counts s.open)) (Ok tt)
-    none_more n = record { does = record { passed = p; step = k; done = Done.none n }; onward = ready q _ s.counts (s.open - 1) small v.slots v.sizes (omega (arith, v.few)); behind = stands l (closed_of l (behind s.goal s.counts s.open)) go }
+    pub none_more : length (added p.turn.leaves) ≡ 0 → Goes_on T l (closed_of l (behind s.goal s.counts s.open))
+    none_more n = (ready q _ s.counts (s.open - 1) small v.slots v.sizes (omega (arith, v.few)), stands l (closed_of l (behind s.goal s.counts s.open)) go)
       where
         small : (cond (eqb (s.open - 1) 0) s.goal (last_of l s.counts (s.open - 1))).count ≤ 64
         small = by (eqb (s.open - 1) 0)
@@ -149,8 +149,8 @@ module _ (text : List ℕ) (l : List Record) (s : State) (big : 1088 ≤ length 
 
     -- TWO PREMISES
     pub two_more : (g : Records) (m : List Record) (r : State) → length (added p.turn.leaves) ≡ 2 → records g ≡ premise_at 0 p.turn (records s.goal) → g.count ≤ 64
-        → PutAside l (behind g s.counts s.open) p.turn m r → Stepped text T l s m r (Ok tt)
-    two_more g m r n sg small a = record { does = record { passed = p; step = k; done = Done.two g n sg a }; onward = onward; behind = stands m r go }
+        → PutAside l (behind g s.counts s.open) p.turn m r → Goes_on T m r
+    two_more g m r n sg small a = (onward, stands m r go)
       where
         few : s.open ≤ 16
         few = omega (arith, q.few, n, q.some)
@@ -194,6 +194,25 @@ module _ (text : List ℕ) (l : List Record) (s : State) (big : 1088 ≤ length 
               so = e ∙ f;
             }
             by (y ∷ (z ∷ (_ ∷ _))) r f = elim r [ ]
+
+  -- WHAT IT DOES, where the line is that step
+  abbrev Step : Table → Type 0
+  Step T = StepAt T s (read_at text s.reached.at at_steps) (Ok p)
+
+  module _ (T : Table) (k : Step T) (q : Passing T text s p) where
+    stepped : (m : List Record) (r : State) → Done l s p m r → Goes_on T m r → Stepped text T l s m r (Ok tt)
+    stepped m r d g = record { does = record { passed = p; step = k; done = d }; onward = g.0; behind = g.1 }
+
+    pub one_done : (g : Records) → length (added p.turn.leaves) ≡ 1 → records g ≡ premise_at 0 p.turn (records s.goal) → g.count ≤ 64
+        → Stepped text T l s l (behind g s.counts s.open) (Ok tt)
+    one_done g n sg small = stepped _ _ (Done.one g n sg) (one_more T q g n sg small)
+
+    pub none_done : length (added p.turn.leaves) ≡ 0 → Stepped text T l s l (closed_of l (behind s.goal s.counts s.open)) (Ok tt)
+    none_done n = stepped _ _ (Done.none n) (none_more T q n)
+
+    pub two_done : (g : Records) (m : List Record) (r : State) → length (added p.turn.leaves) ≡ 2 → records g ≡ premise_at 0 p.turn (records s.goal) → g.count ≤ 64
+        → PutAside l (behind g s.counts s.open) p.turn m r → Stepped text T l s m r (Ok tt)
+    two_done g m r n sg small a = stepped m r (Done.two g n sg a) (two_more T q g m r n sg small a)
 
 -- the loop holds this of the room m and the state r: a line can be read, and the derivation stands there as it does from l and s on
 pub record Holds (text : List ℕ) (T : Table) (l : List Record) (s : State) (m : List Record) (r : State) : Type 0 where

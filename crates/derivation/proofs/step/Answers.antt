@@ -13,7 +13,7 @@ use Rattle.derivation.specs.Waiting.{Stepped}
 use Rattle.goals.specs.declared.Outcome.{Outcome}
 use Rattle.goals.specs.declared.Outcome.TheVariants.{Closes, Adds, AddsBoth, Parts}
 use Rattle.goals.specs.Records.{added}
-use Rattle.derivation.proofs.Waits.{one_more, none_more, two_more}
+use Rattle.derivation.proofs.Waits.{one_done, none_done, two_done}
 use Rattle.steps.proofs.StepWalk.{ends, goes}
 use Rattle.derivation.proofs.step.Goals as goal
 
@@ -40,14 +40,14 @@ turn-requires-clause-makes c = (goes _ _ _ _ c.in_ok-passed.ensures).makes
 pub returns-in-Closes : goal.returns-in-Closes
 returns-in-Closes c =
     subst (λ (r : State). Stepped c.args.text.now c.args.table.now c.args.room.now c.args.s.now c.args.room.now r (Ok tt)) (sym c.close.ensures)
-    (none_more _ _ _ c.requires.room c.requires.ready _ _ c.in_ok-passed.ensures (goes _ _ _ _ c.in_ok-passed.ensures) (ap (λ (o : Outcome). length (added o)) c.in-Closes.is))
+    (none_done _ _ _ c.requires.room c.requires.ready _ _ c.in_ok-passed.ensures (goes _ _ _ _ c.in_ok-passed.ensures) (ap (λ (o : Outcome). length (added o)) c.in-Closes.is))
 
 pub returns-in-Parts : goal.returns-in-Parts
 returns-in-Parts c =
-    two_more _ _ _ c.requires.room c.requires.ready _ _ c.in_ok-passed.ensures (goes _ _ _ _ c.in_ok-passed.ensures) _ _ _ (ap (λ (o : Outcome). length (added o)) c.in-Parts.is)
+    two_done _ _ _ c.requires.room c.requires.ready _ _ c.in_ok-passed.ensures (goes _ _ _ _ c.in_ok-passed.ensures) _ _ _ (ap (λ (o : Outcome). length (added o)) c.in-Parts.is)
     c.turn.ensures.shows c.turn.ensures.few c.put_aside.ensures
 
 pub returns-in_default : goal.returns-in_default
 returns-in_default c =
-    one_more _ _ _ c.requires.room c.requires.ready _ _ c.in_ok-passed.ensures (goes _ _ _ _ c.in_ok-passed.ensures) _ (one _ c.in_default.not-Closes c.in_default.not-Parts)
+    one_done _ _ _ c.requires.room c.requires.ready _ _ c.in_ok-passed.ensures (goes _ _ _ _ c.in_ok-passed.ensures) _ (one _ c.in_default.not-Closes c.in_default.not-Parts)
     c.turn-in_default.ensures.shows c.turn-in_default.ensures.few
