@@ -2,7 +2,7 @@
 -- Assumes nothing.
 use Prim.Native.Nat.{ℕ, zero, suc, ◌+◌}
 use mathlib.Core.Bool.{Bool, true, false}
-use mathlib.Core.List.{List, [], ◌∷◌}
+use mathlib.Core.List.{List, [], ◌∷◌, map}
 use mathlib.Core.Path.{◌≡◌, refl, sym, subst}
 use lib.Dec.{leb}
 use lib.ListN.{length}
@@ -18,30 +18,25 @@ use Rattle.alc.specs.declared.refusal.Refusal.TheVariants.{TooLong, Malformed, O
 use Rattle.alc.proofs.Passing.{line_All, passes_ending, bad_refused, Judged, judged, through, stopped}
 use Rattle.alc.proofs.Ending.{Ends, closed, falsified, missing, wrong, ends}
 
--- the number of a refusal is one of the list
+-- k is the number of a refusal
+abbrev pub InList : ℕ → Type 0
+InList k = (r : Refusal) × (number_of r ≡ k)
+
+-- the verdict's number is one, where it is a refusal
 abbrev pub Listed : Verdict → Type 0
 Listed (proved n) = Unit {0}
 Listed (refuted n) = Unit {0}
-Listed (refused k n) = (r : Refusal) × (number_of r ≡ k)
+Listed (refused k n) = InList k
 
-rows_listed : All (λ k. (r : Refusal) × (number_of r ≡ k)) order
-rows_listed = (
-  (Malformed, refl),
-  (
-    (TooMany, refl),
-    (
-      (NoGoal, refl),
-      (
-        (OutOfRange, refl),
-        (
-          (Repeated, refl),
-          ((OtherKind, refl), ((Missing, refl), ((NotNew, refl), ((GoalFull, refl), ((TooManyWait, refl), tt))))),
-        ),
-      ),
-    ),
-  ),
-)
+-- a list of refusals has such numbers, and the rows of a line have those of ten
+numbers : (rs : List Refusal) → All InList (map number_of rs)
+numbers [] = tt
+numbers (r ∷ rs) = ((r, refl), numbers rs)
 
+rows_listed : All InList order
+rows_listed = numbers (Malformed ∷ TooMany ∷ NoGoal ∷ OutOfRange ∷ Repeated ∷ OtherKind ∷ Missing ∷ NotNew ∷ GoalFull ∷ TooManyWait ∷ [])
+
+-- the end has 12 and 13
 end_listed : {n : ℕ} {E : State} {v : Verdict} → Ends n E v → Listed v
 end_listed (closed h g) = tt
 end_listed (falsified h a c) = tt
@@ -56,7 +51,7 @@ judge_listed n S is = go (judged S is)
     go (through E w) = subst Listed (sym (passes_ending w n)) (end_listed (ends (n + length is) E))
     go (stopped k m b) =
         subst Listed (sym (bad_refused S is k m n b))
-        (line_All (λ j. (r : Refusal) × (number_of r ≡ j)) rows_listed b.read (said b.read b.bad) (suc k) b.first)
+        (line_All InList rows_listed b.read (said b.read b.bad) (suc k) b.first)
 
 -- and so of every text, in every room
 pub verdict_listed : (room : ℕ) (text : List ℕ) → Listed (verdict room text)
@@ -68,5 +63,5 @@ verdict_listed room text = go (leb 1088 room) (leb (length text) 65535)
     go true false = (TooLong, refl)
     go true true = judge_listed 0 begin (lines_of text)
 
-pub refused_listed : (room : ℕ) (text : List ℕ) (k n : ℕ) → verdict room text ≡ refused k n → (r : Refusal) × (number_of r ≡ k)
+pub refused_listed : (room : ℕ) (text : List ℕ) (k n : ℕ) → verdict room text ≡ refused k n → InList k
 refused_listed room text k n e = subst Listed e (verdict_listed room text)
